@@ -1,0 +1,54 @@
+//! The calls that make a book and change its row.
+
+ghost use lib.ListN.{replicate};
+ghost use mathlib.Core.List.{_∷_};
+ghost use mathlib.Core.Path.{_≡_};
+ghost use Prim.Native.Nat.{_-_, _≤_};
+ghost use Rattle.std.specs.Of.Vec.{vec-cap, vec-items};
+ghost use Rattle.std.specs.declared.option.Option.the-variants.{None, Some};
+ghost use Rattle.books.specs.Calls.{Opens};
+use super::Book;
+use std::alloc::Global;
+use tables::Refusal;
+use tables::RefusalFromAlloc;
+
+/// The largest size that a base may have.
+const LARGEST_BASE: u32 = 4_096;
+
+/// How many units may stand beside the base.
+const MOST_OTHERS: usize = 15;
+
+/// Writes the entries of a base alone: 0 at 0, and no other.
+fn begin(entries: &mut Vec<Option<u32>>, base: u16)
+    requires some { ⌜ 1 ≤ base ⌝ }
+    requires few { ⌜ base ≤ 4096 ⌝ }
+    requires space { ⌜ 4096 ≤ vec-cap (now entries) ⌝ }
+    ensures items { λ _. ⌜ vec-items (now (entries .exit)) ≡ Some 0 ∷ replicate (base - 1) None ⌝ }
+    ensures space { λ _. ⌜ 4096 ≤ vec-cap (now (entries .exit)) ⌝ }
+{
+    entries.clear();
+    entries.push_reserved(Some(0));
+    for _ in 1..base {
+        entries.push_reserved(None);
+    }
+}
+
+impl Book {
+    /// Opens a book of its base alone, a size of 1 to 4,096, and sets all memory aside that the book can ever need.
+    pub fn open(heap: Global, base: u32) -> Result<Book, Refusal>
+        ensures { λ r. ⌜ Opens base r ⌝ }
+    {
+        if base < 1 || base > LARGEST_BASE {
+            return Err(Refusal::OutOfRange(base));
+        }
+        let others = Vec::with_capacity(heap, MOST_OTHERS)?;
+        let mut entries = Vec::with_capacity(heap, LARGEST_BASE as usize)?;
+        let base = base as u16;
+        begin(&mut entries, base);
+        Ok(Book {
+            base,
+            others,
+            entries,
+        })
+    }
+}

@@ -1,0 +1,4 @@
+pub mod Languages
+pub mod Figures
+pub mod Sequences
+pub mod Letters

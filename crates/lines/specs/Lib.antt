@@ -1,0 +1,4 @@
+pub mod Texts
+pub mod Numbers
+pub mod Tails
+pub mod Lines

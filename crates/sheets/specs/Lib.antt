@@ -1,0 +1,4 @@
+pub mod Splitting
+pub mod Answers
+pub mod Lines
+pub mod Sheets

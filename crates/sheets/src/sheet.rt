@@ -1,0 +1,54 @@
+//! A sheet that is being carried out: the book that stands, and what each line does and answers.
+
+ghost use mathlib.Core.Path.{_≡_};
+ghost use Rattle.std.specs.declared.option.Option.the-variants.{None};
+ghost use Rattle.sheets.specs.Lines.{Answers, Carries};
+ghost use Rattle.sheets.specs.Sheets.{Unless-memory, standing};
+use crate::answers::Answer;
+use books::Book;
+use lines::Line;
+use lines::read;
+use std::alloc::Global;
+use tables::Refusal;
+
+/// What a sheet keeps from line to line: the book that an accepted line opened last.
+#[derive(Drop)]
+pub(crate) struct Sheet {
+    book: Option<Book>,
+}
+
+impl Sheet {
+    /// A sheet before its first line: no book stands.
+    pub(crate) fn new() -> Sheet
+        ensures { λ r. ⌜ standing r ≡ None ⌝ }
+    {
+        Sheet { book: None }
+    }
+
+    /// Carries a readable line out.
+    fn carry_out(&mut self, heap: Global, line: Line) -> Result<Answer, Refusal>
+        ensures { λ r. ⌜ Unless-memory r (Carries (standing (now (self .entry))) line r (standing (now (self .exit)))) ⌝ }
+    {
+        match line {
+            Line::Open(base) => {
+                self.book = Some(Book::open(heap, base)?);
+                Ok(Answer::Done)
+            }
+            Line::Largest => {
+                let book = self.book.as_ref().ok_or(Refusal::NoBook)?;
+                Ok(Answer::Number(book.largest()?))
+            }
+            Line::Gaps => {
+                let book = self.book.as_ref().ok_or(Refusal::NoBook)?;
+                Ok(Answer::Count(book.gaps()?))
+            }
+        }
+    }
+    /// Reads a line and carries it out. An unreadable line changes nothing.
+    pub(crate) fn answer(&mut self, heap: Global, bytes: &[u8]) -> Result<Answer, Refusal>
+        ensures { λ r. ⌜ Unless-memory r (Answers (standing (now (self .entry))) (now (bytes .entry)) r (standing (now (self .exit)))) ⌝ }
+    {
+        let line = read(bytes)?;
+        self.carry_out(heap, line)
+    }
+}

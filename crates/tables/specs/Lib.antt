@@ -1,0 +1,5 @@
+pub mod Refusals
+pub mod Tables
+pub mod Missing
+pub mod Rows
+pub mod Unmade

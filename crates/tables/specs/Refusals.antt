@@ -1,0 +1,22 @@
+-- The number and the place of each refusal. Want of memory has neither.
+use Prim.Native.Nat.{ℕ}
+use Rattle.std.specs.declared.option.Option.{Option}
+use Rattle.std.specs.declared.option.Option.the-variants.{Some, None}
+use Rattle.tables.specs.declared.refusals.Refusal.{Refusal}
+use Rattle.tables.specs.declared.refusals.Refusal.the-variants.{OutOfRange, Endless, NoRoom, Unreadable, NoBook, NoMemory}
+
+abbrev pub number-of : Refusal → Option ℕ
+number-of (OutOfRange value) = Some 1
+number-of (Endless remainder) = Some 7
+number-of (NoRoom places) = Some 8
+number-of (Unreadable column) = Some 16
+number-of NoBook = Some 17
+number-of NoMemory = None
+
+abbrev pub place-of : Refusal → Option ℕ
+place-of (OutOfRange value) = Some value
+place-of (Endless remainder) = Some remainder
+place-of (NoRoom places) = Some places
+place-of (Unreadable column) = Some column
+place-of NoBook = Some 0
+place-of NoMemory = None

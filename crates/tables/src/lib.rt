@@ -1,0 +1,15 @@
+//! Tables of least loads: what a table source is, what is read from any of them, and why a call is refused.
+
+mod missing;
+mod refusals;
+mod sources;
+
+pub use missing::gaps;
+pub use missing::largest;
+pub use refusals::Refusal;
+pub use refusals::RefusalDebug;
+pub use refusals::RefusalFromAlloc;
+pub use refusals::RefusalFromFormat;
+pub use refusals::RefusalPartialEq;
+pub use sources::BorrowedSource;
+pub use sources::Source;

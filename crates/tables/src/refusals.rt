@@ -1,0 +1,71 @@
+//! Why a call is refused: one case for each reason, with the value that its place is made of.
+
+ghost use mathlib.Core.Path.{_≡_};
+ghost use Rattle.tables.specs.Refusals.{number-of, place-of};
+ghost use Rattle.tables.specs.declared.refusals.Refusal.the-variants.{NoMemory};
+use std::alloc::AllocError;
+use std::fmt;
+
+/// Why a call is refused. Each reason but the last has a number and a place.
+#[derive(Clone, Copy, PartialEq, Eq, Debug)]
+pub enum Refusal {
+    /// A base or a size is out of its range: this is the value.
+    OutOfRange(u32),
+    /// The missing loads never end: this is the lowest remainder whose entry is absent.
+    Endless(u32),
+    /// Memory is too short, or a sheet too long: this many places are needed, or allowed.
+    NoRoom(usize),
+    /// No readable line goes on at this column, counted from 1.
+    Unreadable(usize),
+    /// A line needs a book, and none has been opened.
+    NoBook,
+    /// The machine has no memory left.
+    NoMemory,
+}
+
+impl Refusal {
+    /// The number of the refusal; want of memory has none.
+    pub fn number(self) -> Option<u32>
+        ensures { λ r. ⌜ r ≡ number-of self ⌝ }
+    {
+        match self {
+            Refusal::OutOfRange(_) => Some(1),
+            Refusal::Endless(_) => Some(7),
+            Refusal::NoRoom(_) => Some(8),
+            Refusal::Unreadable(_) => Some(16),
+            Refusal::NoBook => Some(17),
+            Refusal::NoMemory => None,
+        }
+    }
+
+    /// The place of the refusal; want of memory has none.
+    pub fn place(self) -> Option<u64>
+        ensures { λ r. ⌜ r ≡ place-of self ⌝ }
+    {
+        match self {
+            Refusal::OutOfRange(value) => Some(u64::from(value)),
+            Refusal::Endless(remainder) => Some(u64::from(remainder)),
+            Refusal::NoRoom(places) => Some(places as u64),
+            Refusal::Unreadable(column) => Some(column as u64),
+            Refusal::NoBook => Some(0),
+            Refusal::NoMemory => None,
+        }
+    }
+}
+
+pub impl From<AllocError> for Refusal as RefusalFromAlloc {
+    ghost converts = { λ _ r. r ≡ NoMemory };
+
+    fn from(_e: AllocError) -> Refusal {
+        Refusal::NoMemory
+    }
+}
+
+/// Text that is written into memory fails only for want of it.
+pub impl From<fmt::Error> for Refusal as RefusalFromFormat {
+    ghost converts = { λ _ r. r ≡ NoMemory };
+
+    fn from(_e: fmt::Error) -> Refusal {
+        Refusal::NoMemory
+    }
+}

@@ -1,0 +1,6 @@
+//! The worked examples, as tests of the public calls of the other crates.
+
+#[cfg(test)]
+mod day_sheets;
+#[cfg(test)]
+mod opening;
