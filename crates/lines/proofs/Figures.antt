@@ -1,13 +1,11 @@
--- Numbers in front of bytes: what the loop of the number reader knows, and where bytes break off in and after a number.
+-- Numbers in front of bytes: what the loop of the number reader knows, and where bytes break off before and in a number.
 use mathlib.Core.Path.{_≡_, refl, sym, ap, subst, _∙_}
-use mathlib.Core.List.{List, [], _∷_, _++_, append-assoc, append-nil}
-use mathlib.Core.Logic.{_⊎_, inl, inr, ⊎-elim}
-use Prim.Native.Nat.{ℕ, suc, _+_, _-_, _*_, _/_, _%_, _^_, _≤_, _<_}
-use native.Mathlib.Nat.{zero-add, add-zero}
-use native.Mathlib.Numerals.{add-one}
+use mathlib.Core.List.{List, [], _∷_, _++_, append-nil}
+use mathlib.Core.Logic.{⊎-elim}
+use Prim.Native.Nat.{ℕ, _+_, _-_, _*_, _/_, _%_, _^_, _≤_, _<_}
 use native.Mathlib.Omega.{arith}
-use lib.ListN.{length, getD, take, drop, take-append-drop, length-take, length-drop, length-append}
-use lib.Seq.{getD-take, getD-drop, take-all}
+use lib.ListN.{length, getD, take, drop, take-append-drop, length-take, length-append}
+use lib.Seq.{getD-take, take-all}
 use Rattle.std.specs.Reads.{Digits, value, valueAfter}
 use Rattle.std.specs.Text.{digitValue}
 use Rattle.std.specs.Written.{decimal}
@@ -18,7 +16,7 @@ use Rattle.std.proofs.shelf.Numerals.{digit-from-value, digit-at}
 use Rattle.std.proofs.shelf.Tests.{cases-eq, cases-lt}
 use Rattle.std.proofs.shelf.Ways.{tells}
 use Rattle.lines.specs.Numbers.{Digit, Bare, Number-then, Numbered, Numberless}
-use Rattle.lines.specs.Texts.{Starts, Stops}
+use Rattle.lines.specs.Texts.{Starts}
 use Rattle.lines.proofs.Languages.{split, same-cons}
 
 digit-is : (b : ℕ) → Digit b → digitValue b ≡ b - 48
@@ -39,7 +37,7 @@ front [] rest es ys digits bare e = (es, refl)
 front (d ∷ ds) rest [] ys digits bare e =
     let first : d ≡ getD ys 0 0 = ap (λ (u : List ℕ). getD u 0 0) e in
     let is = digit-from-value d (digits .0) in
-    absurd (bare .first (omega arith, omega arith))
+    absurd (bare .first (subst Digit first is))
 front (d ∷ ds) rest (c ∷ es) ys digits bare e =
     let s = split e in
     let r = front ds rest es ys (digits .1) bare (s .1) in
@@ -51,11 +49,11 @@ same-front [] [] xs ys p q bare other e = e
 same-front [] (c ∷ es) xs ys p q bare other e =
     let is = digit-from-value c (q .0) in
     let first : getD xs 0 0 ≡ c = ap (λ (u : List ℕ). getD u 0 0) e in
-    absurd (bare (omega arith, omega arith))
+    absurd (bare (subst Digit (sym first) is))
 same-front (d ∷ ds) [] xs ys p q bare other e =
     let is = digit-from-value d (p .0) in
     let first : d ≡ getD ys 0 0 = ap (λ (u : List ℕ). getD u 0 0) e in
-    absurd (other (omega arith, omega arith))
+    absurd (other (subst Digit first is))
 same-front (d ∷ ds) (c ∷ es) xs ys p q bare other e = same-front ds es xs ys (p .1) (q .1) bare other (split e .1)
 
 -- some number begins with the bytes
@@ -74,7 +72,7 @@ pub record Sofar (most : ℕ) (bytes : List ℕ) (i v : ℕ) : Type 0 where
 pub bare-end : Bare (10 ∷ [])
 bare-end = record { some = omega arith; first = λ d. let h = d .0 in omega arith }
 
-module _ (most : ℕ) (small : most < 2 ^ 32) (bytes : List ℕ) (i v : ℕ) (so : Sofar most bytes i v) where
+module _ {most : ℕ} {bytes : List ℕ} {i v : ℕ} (so : Sofar most bytes i v) (small : most < 2 ^ 32) where
   digits : Digits 10 (take i bytes)
   digits = ⊎-elim
       (λ (z : i ≡ 0). subst (λ (k : ℕ). Digits 10 (take k bytes)) (sym z) tt)
@@ -145,7 +143,7 @@ module _ (most : ℕ) (small : most < 2 ^ 32) (bytes : List ℕ) (i v : ℕ) (so
         ∙ getD-append-left (take (i + 1) bytes) (g .rest) 0 0 l
         ∙ getD-take (i + 1) bytes 0 0 (omega arith) in
         let at : getD bytes 0 0 ≡ getD bytes i 0 = ap (λ (k : ℕ). getD bytes k 0) (sym first) in
-        bare (omega arith, omega arith))
+        bare (subst Digit (same ∙ at) d))
 
     -- a digit stands at i
     module _ (digit : Digit (getD bytes i 0)) where

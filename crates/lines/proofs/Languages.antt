@@ -22,8 +22,8 @@ pub never : {x : ℕ} {s : List ℕ} → x ∷ s ≡ [] → ⊥
 never e = let z : _≡_ {A = ℕ} 0 1 = cc in omega arith
 
 -- a first byte, and the rest as `&bytes[1..]` has it
-pub parted : (x : ℕ) (bytes : List ℕ) → false ≡ eqb (length bytes) 0 → getD bytes 0 0 ≡ x → bytes ≡ x ∷ take (length bytes - 1) (drop 1 bytes)
-parted x bytes some first =
+pub parted : (x : ℕ) {bytes : List ℕ} → false ≡ eqb (length bytes) 0 → getD bytes 0 0 ≡ x → bytes ≡ x ∷ take (length bytes - 1) (drop 1 bytes)
+parted x {bytes = bytes} some first =
     let long = eqb-false (length bytes) 0 (sym some) in
     first-rest bytes 0 (omega arith) ∙ ap (λ (b : ℕ). b ∷ take (length bytes - 1) (drop 1 bytes)) first
 
@@ -104,30 +104,6 @@ module _ (Wide Narrow : List ℕ → Type 0) (n : Narrows Wide Narrow) where
 -- the end of a line
 pub starts-end : Starts End []
 starts-end = record { rest = 10 ∷ []; whole = refl }
-
-pub stops-no-end : (t : List ℕ) → (0 < length t → getD t 0 0 ≡ 10 → ⊥) → Stops End t 0
-stops-no-end [] other = record {
-  within = omega arith;
-  before = starts-end;
-  here = λ h g. absurd (omega arith);
-  unread = λ e. never (sym e);
-}
-stops-no-end (y ∷ t) other = record {
-  within = omega arith;
-  before = starts-end;
-  here = λ h g. other (omega arith) (split (g .whole) .0);
-  unread = λ e. other (omega arith) (split e .0);
-}
-
-pub stops-past-end : (t : List ℕ) → getD t 0 0 ≡ 10 → 1 < length t → Stops End t 1
-stops-past-end [] first long = absurd (omega arith)
-stops-past-end (y ∷ []) first long = absurd (omega arith)
-stops-past-end (y ∷ (z ∷ t)) first long = record {
-  within = omega arith;
-  before = record { rest = []; whole = ap (λ (b : ℕ). b ∷ []) first };
-  here = λ h g. never (split (g .whole) .1);
-  unread = λ e. never (split e .1);
-}
 
 pub ends : (t : List ℕ) → 0 < length t → getD t 0 0 ≡ 10 → length t < 2 → End t
 ends [] some first short = absurd (omega arith)

@@ -2,7 +2,7 @@
 use mathlib.Core.Path.{_≡_, refl, sym, ap, subst, _∙_}
 use mathlib.Core.Bool.{true, cond}
 use mathlib.Core.List.{List, [], _∷_, _++_}
-use Prim.Native.Nat.{ℕ, suc, _+_, _-_, _≤_, _<_}
+use Prim.Native.Nat.{ℕ, suc, _+_, _-_}
 use native.Mathlib.Omega.{arith}
 use lib.Dec.{eqb}
 use lib.ListN.{length, getD}
@@ -14,17 +14,16 @@ use Rattle.tables.specs.declared.refusals.Refusal.the-variants.{Unreadable}
 use Rattle.lines.specs.declared.line.Line.{Line}
 use Rattle.lines.specs.declared.line.Line.the-variants.{Open, Largest, Gaps}
 use Rattle.lines.specs.Lines.{text, Fits, Spells, Readable, Unread}
-use Rattle.lines.specs.Numbers.{Number-then}
 use Rattle.lines.specs.Tails.{End, Spaced, Breaks}
 use Rattle.lines.specs.Texts.{Starts, Stops}
 use Rattle.lines.proofs.Languages.{split, never, stops-under}
 
-abbrev letter : Line → ℕ
+abbrev pub letter : Line → ℕ
 letter (Open base) = 66
 letter Largest = 76
 letter Gaps = 71
 
-abbrev tail : Line → List ℕ
+abbrev pub tail : Line → List ℕ
 tail (Open base) = 32 ∷ (decimal base ++ (10 ∷ []))
 tail Largest = 10 ∷ []
 tail Gaps = 10 ∷ []
@@ -35,7 +34,7 @@ text-is Largest = refl
 text-is Gaps = refl
 
 -- the language of what follows a letter; no text where no line has the letter
-abbrev pub Tail : ℕ → List ℕ → Type 0
+abbrev Tail : ℕ → List ℕ → Type 0
 Tail x = cond (eqb x 66) (Spaced 4294967295 End) (cond (eqb x 76) End (cond (eqb x 71) End (λ t. ⊥)))
 
 sorts : (line : Line) → Fits line → Tail (letter line) (tail line)
@@ -47,19 +46,6 @@ from-line : (x : ℕ) (t : List ℕ) → Readable (x ∷ t) → Tail x t
 from-line x t r =
     let s = split (sym (text-is (r .line)) ∙ r .spells .is) in
     subst (λ (y : ℕ). Tail y t) (s .0) (subst (Tail (letter (r .line))) (s .1) (sorts (r .line) (r .spells .fits)))
-
--- columns count from 1, and the letter has the first
-module _ (x : ℕ) (to : (t : List ℕ) → Tail x t → Readable (x ∷ t)) (bytes t : List ℕ) (e : bytes ≡ x ∷ t) where
-  unread : (reason : Refusal) → Breaks (Tail x) t 2 reason → Unread bytes reason
-  unread reason b = record {
-    column = 2 + b .place;
-    named = b .named;
-    from = omega arith;
-    stops =
-        let k : suc (b .place) ≡ 2 + b .place - 1 = omega arith in
-        subst (λ (u : List ℕ). Stops Readable u (2 + b .place - 1)) (sym e)
-        (subst (Stops Readable (x ∷ t)) k (stops-under Readable (Tail x) x to (from-line x) t (b .place) (b .stops)));
-  }
 
 to-open : (t : List ℕ) → Tail 66 t → Readable (66 ∷ t)
 to-open t a =
@@ -78,14 +64,27 @@ to-largest t e = record { line = Largest; spells = record { fits = tt; is = ap (
 to-gaps : (t : List ℕ) → Tail 71 t → Readable (71 ∷ t)
 to-gaps t e = record { line = Gaps; spells = record { fits = tt; is = ap (λ (u : List ℕ). 71 ∷ u) (sym e) } }
 
-pub unread-open : (bytes t : List ℕ) → bytes ≡ 66 ∷ t → (reason : Refusal) → Breaks (Spaced 4294967295 End) t 2 reason → Unread bytes reason
-unread-open = unread 66 to-open
+-- Columns count from 1, so that what follows the letter begins at column 2.
+unread : (x : ℕ) → ((t : List ℕ) → Tail x t → Readable (x ∷ t)) → {bytes t : List ℕ} → bytes ≡ x ∷ t → {reason : Refusal} → Breaks (Tail x) t 2 reason → Unread bytes reason
+unread x to {t = t} e b = record {
+  column = 2 + b .place;
+  named = b .named;
+  from = omega arith;
+  stops =
+      let k : suc (b .place) ≡ 2 + b .place - 1 = omega arith in
+      subst (λ (u : List ℕ). Stops Readable u (2 + b .place - 1)) (sym e)
+      (subst (Stops Readable (x ∷ t)) k (stops-under Readable (Tail x) x to (from-line x) t (b .place) (b .stops)));
+}
 
-pub unread-largest : (bytes t : List ℕ) → bytes ≡ 76 ∷ t → (reason : Refusal) → Breaks End t 2 reason → Unread bytes reason
-unread-largest = unread 76 to-largest
+module _ {bytes t : List ℕ} {reason : Refusal} where
+  pub unread-open : bytes ≡ 66 ∷ t → Breaks (Spaced 4294967295 End) t 2 reason → Unread bytes reason
+  unread-open e = unread 66 to-open e
 
-pub unread-gaps : (bytes t : List ℕ) → bytes ≡ 71 ∷ t → (reason : Refusal) → Breaks End t 2 reason → Unread bytes reason
-unread-gaps = unread 71 to-gaps
+  pub unread-largest : bytes ≡ 76 ∷ t → Breaks End t 2 reason → Unread bytes reason
+  unread-largest e = unread 76 to-largest e
+
+  pub unread-gaps : bytes ≡ 71 ∷ t → Breaks End t 2 reason → Unread bytes reason
+  unread-gaps e = unread 71 to-gaps e
 
 starts-line : Starts Readable []
 starts-line = record { rest = 76 ∷ (10 ∷ []); whole = to-largest (10 ∷ []) refl }
@@ -109,10 +108,10 @@ unread-first bytes none = record { column = 1; named = refl; from = omega arith;
     }
 
 pub unread-other : (bytes : List ℕ) → (getD bytes 0 0 ≡ 66 → ⊥) → (getD bytes 0 0 ≡ 76 → ⊥) → (getD bytes 0 0 ≡ 71 → ⊥) → Unread bytes (Unreadable 1)
-unread-other bytes base largest gaps =
-    let o = ne-eqb (getD bytes 0 0) 66 base in
-    let l = ne-eqb (getD bytes 0 0) 76 largest in
-    let g = ne-eqb (getD bytes 0 0) 71 gaps in
+unread-other bytes not-open not-largest not-gaps =
+    let o = ne-eqb (getD bytes 0 0) 66 not-open in
+    let l = ne-eqb (getD bytes 0 0) 76 not-largest in
+    let g = ne-eqb (getD bytes 0 0) 71 not-gaps in
     unread-first bytes (λ t h. rw (o, l, g) at h)
 
 pub unread-empty : (bytes : List ℕ) → true ≡ eqb (length bytes) 0 → Unread bytes (Unreadable 1)
@@ -121,12 +120,6 @@ unread-empty bytes none =
     let past = getD-past bytes 0 0 (omega arith) in
     unread-other bytes (λ e. omega arith) (λ e. omega arith) (λ e. omega arith)
 
--- what the letter and what follows it spell
-pub spells-open : (bytes t : List ℕ) (base : ℕ) → bytes ≡ 66 ∷ t → base ≤ 4294967295 → 32 ∷ (decimal base ++ (10 ∷ [])) ≡ t → Spells bytes (Open base)
-spells-open bytes t base e fits is = record { fits = fits; is = ap (λ (u : List ℕ). 66 ∷ u) is ∙ sym e }
-
-pub spells-largest : (bytes t : List ℕ) → bytes ≡ 76 ∷ t → End t → Spells bytes Largest
-spells-largest bytes t e end = record { fits = tt; is = ap (λ (u : List ℕ). 76 ∷ u) (sym end) ∙ sym e }
-
-pub spells-gaps : (bytes t : List ℕ) → bytes ≡ 71 ∷ t → End t → Spells bytes Gaps
-spells-gaps bytes t e end = record { fits = tt; is = ap (λ (u : List ℕ). 71 ∷ u) (sym end) ∙ sym e }
+-- the letter of a line, and what follows it in the line, spell the line
+pub spells : (line : Line) → Fits line → {bytes t : List ℕ} → bytes ≡ letter line ∷ t → tail line ≡ t → Spells bytes line
+spells line fits e is = record { fits = fits; is = text-is line ∙ ap (λ (u : List ℕ). letter line ∷ u) is ∙ sym e }

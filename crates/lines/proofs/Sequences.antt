@@ -2,13 +2,12 @@
 use mathlib.Core.Path.{_≡_, refl, sym, ap, subst, _∙_}
 use mathlib.Core.List.{List, [], _∷_, _++_, append-assoc}
 use mathlib.Core.Logic.{_⊎_, inl, inr, ⊎-elim}
-use Prim.Native.Nat.{ℕ, suc, _+_, _-_, _^_, _≤_, _<_}
+use Prim.Native.Nat.{ℕ, suc, _+_, _^_, _≤_, _<_}
 use native.Mathlib.Nat.{zero-add, add-zero}
 use native.Mathlib.Numerals.{add-one}
 use native.Mathlib.Omega.{arith}
-use lib.ListN.{length, getD, take, drop, take-append-drop, length-take, length-drop, length-append}
+use lib.ListN.{length, getD, take, drop, take-append-drop, length-take, length-append}
 use lib.Seq.{getD-drop}
-use Rattle.std.specs.Reads.{Digits}
 use Rattle.std.specs.Written.{decimal}
 use Rattle.std.proofs.shelf.Decimals.{decimal-reads}
 use Rattle.std.proofs.shelf.Lists.{getD-append-left}
@@ -91,7 +90,7 @@ module _ (most : ℕ) (Rest : List ℕ → Type 0) (ending : Ending Rest) where
             let same : getD (w .rest) 0 0 ≡ getD (h .0) 0 0 = ap (λ (u : List ℕ). getD u 0 0) (h .1 .1 .1) ∙ getD-append-left (h .0) (s .rest) 0 0 some in
             record {
               some = omega (arith, length-append (h .0) more);
-              first = λ d. let low = d .0 in let high = d .1 in w .follows .first (omega arith, omega arith);
+              first = λ d. w .follows .first (subst Digit (before ∙ sym same) d);
             };
         is = sym (append-assoc (decimal (w .value)) (h .0) more) ∙ ap (λ (u : List ℕ). u ++ more) (h .1 .1 .0);
       }))
@@ -111,7 +110,7 @@ module _ (most : ℕ) (Rest : List ℕ → Type 0) (ending : Ending Rest) where
     follows t first w =
         let f = w .fits in
         let same = same-front (decimal v) (decimal (w .value)) t (w .rest) (decimal-reads v (omega arith) .0 .1) (decimal-reads (w .value) (omega arith) .0 .1)
-        (λ d. let low = d .0 in let high = d .1 in bare (omega arith, omega arith)) (ending .bare (w .rest) (w .follows) .first) (sym (w .is)) in
+        (λ d. bare (subst Digit first d)) (ending .bare (w .rest) (w .follows) .first) (sym (w .is)) in
         subst Rest (sym same) (w .follows)
 
     pub stops-past : (q : ℕ) → Stops Rest xs q → Stops (Number-then most Rest) (decimal v ++ xs) (length (decimal v) + q)
@@ -134,62 +133,61 @@ module _ (most : ℕ) (Rest : List ℕ → Type 0) (ending : Ending Rest) where
       unread = λ w. s .unread (follows xs refl w);
     }
 
--- one space, a number, and then a text of Rest
-module _ (most : ℕ) (bytes : List ℕ) (column : ℕ) where
-  pub breaks-space : (0 < length bytes → getD bytes 0 0 ≡ 32 → ⊥) → Breaks (Spaced most Bare) bytes column (Unreadable column)
-  breaks-space other = record {
-    place = 0;
-    named = ap Unreadable (sym (add-zero column));
-    stops = stops-before 32 (Number-then most Bare) (starts-number most Bare ending-bare) bytes other;
+-- One space and then a number: the space is not there, the number is not there, or both are.
+pub breaks-space : (most : ℕ) (bytes : List ℕ) (column : ℕ) → (0 < length bytes → getD bytes 0 0 ≡ 32 → ⊥) → Breaks (Spaced most Bare) bytes column (Unreadable column)
+breaks-space most bytes column other = record {
+  place = 0;
+  named = ap Unreadable (sym (add-zero column));
+  stops = stops-before 32 (Number-then most Bare) (starts-number most Bare ending-bare) bytes other;
+}
+
+module _ {most : ℕ} {bytes t : List ℕ} (e : bytes ≡ 32 ∷ t) where
+  pub breaks-number : (column place : ℕ) → Numberless most t place → Breaks (Spaced most Bare) bytes column (Unreadable (column + place + 1))
+  breaks-number column place n = record {
+    place = suc place;
+    named = let k : column + place + 1 ≡ column + suc place = omega arith in ap Unreadable k;
+    stops = subst (λ (u : List ℕ). Stops (Spaced most Bare) u (suc place)) (sym e) (stops-after 32 (Number-then most Bare) t place (n .stops));
   }
 
-  module _ (t : List ℕ) (e : bytes ≡ 32 ∷ t) where
-    pub breaks-number : (place : ℕ) → Numberless most t place → Breaks (Spaced most Bare) bytes column (Unreadable (column + place + 1))
-    breaks-number place n = record {
-      place = suc place;
-      named = let k : column + place + 1 ≡ column + suc place = omega arith in ap Unreadable k;
-      stops = subst (λ (u : List ℕ). Stops (Spaced most Bare) u (suc place)) (sym e) (stops-after 32 (Number-then most Bare) t place (n .stops));
-    }
+  pub spaced : (v end : ℕ) → Numbered most t v end → Spaced-number most bytes v (end + 1)
+  spaced v end n =
+      let at : getD bytes (end + 1) 0 ≡ getD t end 0 = ap (λ (u : List ℕ). getD u (end + 1) 0) e ∙ ap (λ (k : ℕ). getD (32 ∷ t) k 0) (add-one end) in
+      let l = ap length e in
+      let w = n .within in
+      let s = n .short in
+      record {
+        fits = n .fits;
+        short = omega arith;
+        within = omega arith;
+        is = ap (take (end + 1)) e ∙ ap (λ (k : ℕ). take k (32 ∷ t)) (add-one end) ∙ ap (λ (u : List ℕ). 32 ∷ u) (n .is);
+        after = λ d. n .after (subst Digit at d);
+      }
 
-    pub spaced : (v end : ℕ) → Numbered most t v end → Spaced-number most bytes v (end + 1)
-    spaced v end n =
-        let at : getD bytes (end + 1) 0 ≡ getD t end 0 = ap (λ (u : List ℕ). getD u (end + 1) 0) e ∙ ap (λ (k : ℕ). getD (32 ∷ t) k 0) (add-one end) in
-        let l = ap length e in
-        let w = n .within in
-        let s = n .short in
-        record {
-          fits = n .fits;
-          short = omega arith;
-          within = omega arith;
-          is = ap (take (end + 1)) e ∙ ap (λ (k : ℕ). take k (32 ∷ t)) (add-one end) ∙ ap (λ (u : List ℕ). 32 ∷ u) (n .is);
-          after = λ d. let low = d .0 in let high = d .1 in n .after (omega arith, omega arith);
-        }
+pub spaced-is : {most : ℕ} {bytes : List ℕ} {v end : ℕ} → Spaced-number most bytes v end → 32 ∷ (decimal v ++ drop end bytes) ≡ bytes
+spaced-is {bytes = bytes} {end = end} n = ap (λ (u : List ℕ). u ++ drop end bytes) (sym (n .is)) ∙ take-append-drop end bytes
 
-  module _ (Rest : List ℕ → Type 0) (ending : Ending Rest) where
-    -- the space or the number is not there
-    pub breaks-in : (reason : Refusal) → Breaks (Spaced most Bare) bytes column reason → Breaks (Spaced most Rest) bytes column reason
-    breaks-in reason b = record {
-      place = b .place;
-      named = b .named;
-      stops = stops-narrow (Spaced most Bare) (Spaced most Rest) (narrows-after (Number-then most Bare) (Number-then most Rest) (narrows-number most Rest ending) 32) bytes (b .place) (b .stops);
-    }
+-- one space, a number, and then a text of Rest
+module _ {Rest : List ℕ → Type 0} (ending : Ending Rest) {most : ℕ} {bytes : List ℕ} {column : ℕ} {reason : Refusal} where
+  -- what is refused in front of any byte that is no digit breaks off at the same place in front of Rest
+  pub breaks-in : Breaks (Spaced most Bare) bytes column reason → Breaks (Spaced most Rest) bytes column reason
+  breaks-in b = record {
+    place = b .place;
+    named = b .named;
+    stops = stops-narrow (Spaced most Bare) (Spaced most Rest) (narrows-after (Number-then most Bare) (Number-then most Rest) (narrows-number most Rest ending) 32) bytes (b .place) (b .stops);
+  }
 
-    -- they are, and what follows is no text of Rest
-    module _ (small : most < 2 ^ 32) (v end : ℕ) (n : Spaced-number most bytes v end) where
-      pub spaced-is : 32 ∷ (decimal v ++ drop end bytes) ≡ bytes
-      spaced-is = ap (λ (u : List ℕ). u ++ drop end bytes) (sym (n .is)) ∙ take-append-drop end bytes
-
-      pub breaks-past : (reason : Refusal) → Breaks Rest (drop end bytes) (column + end) reason → Breaks (Spaced most Rest) bytes column reason
-      breaks-past reason b =
-          let w = n .within in
-          let taken : length (take end bytes) ≡ end = simp length-take (omega arith) in
-          let long : suc (length (decimal v) + b .place) ≡ end + b .place = omega (arith, ap length (n .is)) in
-          let first : getD (drop end bytes) 0 0 ≡ getD bytes end 0 = getD-drop end bytes 0 0 ∙ ap (λ (k : ℕ). getD bytes k 0) (add-zero end) in
-          let past = stops-past most Rest ending small v (n .fits) (drop end bytes) (λ d. let low = d .0 in let high = d .1 in n .after (omega arith, omega arith)) (b .place) (b .stops) in
-          let k : column + end + b .place ≡ column + (end + b .place) = omega arith in
-          record {
-            place = end + b .place;
-            named = b .named ∙ ap Unreadable k;
-            stops = subst (λ (u : List ℕ). Stops (Spaced most Rest) u (end + b .place)) spaced-is
-                (subst (Stops (Spaced most Rest) (32 ∷ (decimal v ++ drop end bytes))) long (stops-after 32 (Number-then most Rest) _ _ past));
-          }
+  -- the space and the number are there, and what follows is no text of Rest
+  pub breaks-past : {v end : ℕ} → Spaced-number most bytes v end → most < 2 ^ 32 → Breaks Rest (drop end bytes) (column + end) reason → Breaks (Spaced most Rest) bytes column reason
+  breaks-past {v = v} {end = end} n small b =
+      let w = n .within in
+      let taken : length (take end bytes) ≡ end = simp length-take (omega arith) in
+      let long : suc (length (decimal v) + b .place) ≡ end + b .place = omega (arith, ap length (n .is)) in
+      let first : getD (drop end bytes) 0 0 ≡ getD bytes end 0 = getD-drop end bytes 0 0 ∙ ap (λ (k : ℕ). getD bytes k 0) (add-zero end) in
+      let past = stops-past most Rest ending small v (n .fits) (drop end bytes) (λ d. n .after (subst Digit first d)) (b .place) (b .stops) in
+      let k : column + end + b .place ≡ column + (end + b .place) = omega arith in
+      record {
+        place = end + b .place;
+        named = b .named ∙ ap Unreadable k;
+        stops = subst (λ (u : List ℕ). Stops (Spaced most Rest) u (end + b .place)) (spaced-is n)
+            (subst (Stops (Spaced most Rest) (32 ∷ (decimal v ++ drop end bytes))) long (stops-after 32 (Number-then most Rest) _ _ past));
+      }

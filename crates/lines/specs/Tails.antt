@@ -7,7 +7,7 @@ use Rattle.std.specs.Written.{decimal}
 use Rattle.tables.specs.declared.refusals.Refusal.{Refusal}
 use Rattle.tables.specs.declared.refusals.Refusal.the-variants.{Unreadable}
 use Rattle.lines.specs.Texts.{Stops}
-use Rattle.lines.specs.Numbers.{Digit, Bare, Number-then}
+use Rattle.lines.specs.Numbers.{Digit, Number-then}
 
 -- The language of one byte and then a text of the language Rest.
 pub record After (byte : ℕ) (Rest : List ℕ → Type 0) (bytes : List ℕ) : Type 0 where

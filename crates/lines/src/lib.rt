@@ -1,8 +1,5 @@
 //! The lines of a day sheet: what a readable line is, and where any other one breaks off.
 
-ghost use Rattle.lines.specs.Lines.{Reads};
-use tables::Refusal;
-
 mod line;
 mod numbers;
 mod tails;

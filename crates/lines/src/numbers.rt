@@ -22,7 +22,7 @@ fn grown(value: u32, digits: usize, digit: u8, most: u32) -> Option<u32>
 
 /// The number of at most `most` in front of the bytes, and where it ends: at a byte that is no digit.
 /// Refused with the first place at which no such number goes on: one past the last byte where the bytes end too early.
-pub fn number(bytes: &[u8], most: u32) -> Result<(u32, usize), usize>
+pub(crate) fn number(bytes: &[u8], most: u32) -> Result<(u32, usize), usize>
     ensures { λ r. ⌜ Cases r (λ x. Numbered most (now (bytes .entry)) (x .0) (x .1)) (Numberless most (now (bytes .entry))) ⌝ }
 {
     let mut value = 0;

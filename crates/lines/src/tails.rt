@@ -1,4 +1,6 @@
-//! What stands after the letter of a line. Each reader is told the column of its first byte, so that a refusal names its own.
+//! What stands after the letter of a line.
+//! Each reader is told the column of its first byte, and refuses with the column of the first byte at which no text that it reads goes on.
+//! Columns stay below 2^32, so that their sums fit: one space and a number have at most 11 bytes.
 
 ghost use mathlib.Core.List.{[], _∷_, _++_};
 ghost use mathlib.Core.Path.{_≡_};
@@ -25,7 +27,7 @@ fn spaced_number(bytes: &[u8], column: usize, most: u32) -> Result<(u32, usize),
 }
 
 /// One space, a number and the end of the line: the number.
-pub fn last_number(bytes: &[u8], column: usize) -> Result<u32, Refusal>
+pub(crate) fn last_number(bytes: &[u8], column: usize) -> Result<u32, Refusal>
     requires { ⌜ column + 11 < 2 ^ 32 ⌝ }
     ensures { λ r. ⌜ Cases r (λ value. 32 ∷ (decimal value ++ (10 ∷ [])) ≡ now (bytes .entry)) (Breaks (Spaced 4294967295 End) (now (bytes .entry)) column) ⌝ }
 {
@@ -35,7 +37,7 @@ pub fn last_number(bytes: &[u8], column: usize) -> Result<u32, Refusal>
 }
 
 /// The end of the line: byte 10, and nothing more.
-pub fn end(bytes: &[u8], column: usize) -> Result<(), Refusal>
+pub(crate) fn end(bytes: &[u8], column: usize) -> Result<(), Refusal>
     requires { ⌜ column < 2 ^ 32 ⌝ }
     ensures { λ r. ⌜ Cases r (λ _. End (now (bytes .entry))) (Breaks End (now (bytes .entry)) column) ⌝ }
 {

@@ -14,13 +14,25 @@ fn prints(rt: &LibcRuntime, sheet: &[u8], text: &str) -> Result<(), Fail> {
 
 #[test]
 fn the_sheet_of_the_guide(rt: LibcRuntime) -> Result<(), Fail> {
-    prints(&rt, b"B 1\nL\nG\nB 5\nL\nB 0\n", "1 ok\n2 -1\n3 0\n4 ok\n5 no 7 1\n6 no 1 0\n")
+    prints(
+        &rt,
+        b"B 1\nL\nG\nB 5\nL\nB 0\n",
+        "1 ok\n2 -1\n3 0\n4 ok\n5 no 7 1\n6 no 1 0\n",
+    )
 }
 
 #[test]
 fn no_line_loses_the_book(rt: LibcRuntime) -> Result<(), Fail> {
-    prints(&rt, b"L\nB 0\nG\nX\nB 1\nB 4097\nB 05\n\nL", "1 no 17 0\n2 no 1 0\n3 no 17 0\n4 no 16 1\n5 ok\n6 no 1 4097\n7 no 16 4\n8 no 16 1\n9 no 16 2\n")?;
-    prints(&rt, b"B 1\nB 0\nX\nL\n", "1 ok\n2 no 1 0\n3 no 16 1\n4 -1\n")
+    prints(
+        &rt,
+        b"L\nB 0\nG\nX\nB 1\nB 4097\nB 05\n\nL",
+        "1 no 17 0\n2 no 1 0\n3 no 17 0\n4 no 16 1\n5 ok\n6 no 1 4097\n7 no 16 4\n8 no 16 1\n9 no 16 2\n",
+    )?;
+    prints(
+        &rt,
+        b"B 1\nB 0\nX\nL\n",
+        "1 ok\n2 no 1 0\n3 no 16 1\n4 -1\n",
+    )
 }
 
 #[test]

@@ -4,3 +4,5 @@
 mod day_sheets;
 #[cfg(test)]
 mod opening;
+#[cfg(test)]
+mod reading;

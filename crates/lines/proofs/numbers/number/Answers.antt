@@ -11,25 +11,20 @@ pub returns-then-i-eq0 : need.returns-then-i-eq0
 returns-then-i-eq0 c =
     let first : c .loop-i .i ≡ 0 = c .if-i-eq0 .taken in
     subst (Numberless (c .args .most) (c .args .bytes .now)) first
-    (numberless-first (c .args .most) (omega arith) (c .args .bytes .now) (c .loop-i .i) (c .loop-i .value) (c .loop-i .inv) (c .loop-i-test .taken) first
-    (λ d. ⊎-elim (λ a. omega (arith, d .0)) (λ a. omega (arith, a, d .1)) (c .then-b-lt48 .either)))
+    (numberless-first (c .loop-i .inv) (omega arith) (c .loop-i-test .taken) first (λ d. ⊎-elim (λ a. omega (arith, d .0)) (λ a. omega (arith, a, d .1)) (c .then-b-lt48 .either)))
 
 pub returns-else-i-eq0 : need.returns-else-i-eq0
-returns-else-i-eq0 c = numbered (c .args .most) (omega arith) (c .args .bytes .now) (c .loop-i .i) (c .loop-i .value) (c .loop-i .inv) (c .loop-i-test .taken) (omega arith)
-    (λ d. ⊎-elim (λ a. omega (arith, d .0)) (λ a. omega (arith, a, d .1)) (c .then-b-lt48 .either))
+returns-else-i-eq0 c = numbered (c .loop-i .inv) (omega arith) (c .loop-i-test .taken) (omega arith) (λ d. ⊎-elim (λ a. omega (arith, d .0)) (λ a. omega (arith, a, d .1)) (c .then-b-lt48 .either))
 
 pub returns-in-rest : need.returns-in-rest
-returns-in-rest c =
-    numberless-grown (c .args .most) (omega arith) (c .args .bytes .now) (c .loop-i .i) (c .loop-i .value) (c .loop-i .inv) (c .loop-i-test .taken) (omega arith, omega arith) (c .in-rest .ensures tt)
+returns-in-rest c = numberless-grown (c .loop-i .inv) (omega arith) (c .loop-i-test .taken) (omega arith, omega arith) (c .in-rest .ensures tt)
 
 pub loop-i-again : need.loop-i-again
 loop-i-again c =
     let e = c .in-Some .ensures tt in
-    subst (Sofar (c .args .most) (c .args .bytes .now) (c .loop-i .i + 1)) (sym (e .1))
-    (sofar-grown (c .args .most) (omega arith) (c .args .bytes .now) (c .loop-i .i) (c .loop-i .value) (c .loop-i .inv) (c .loop-i-test .taken) (omega arith, omega arith) (e .0))
+    subst (Sofar (c .args .most) (c .args .bytes .now) (c .loop-i .i + 1)) (sym (e .1)) (sofar-grown (c .loop-i .inv) (omega arith) (c .loop-i-test .taken) (omega arith, omega arith) (e .0))
 
 pub returns : need.returns
 returns c =
     let last : c .loop-i .i ≡ length (c .args .bytes .now) = omega arith in
-    subst (Numberless (c .args .most) (c .args .bytes .now)) last
-    (numberless-ended (c .args .most) (omega arith) (c .args .bytes .now) (c .loop-i .i) (c .loop-i .value) (c .loop-i .inv) last)
+    subst (Numberless (c .args .most) (c .args .bytes .now)) last (numberless-ended (c .loop-i .inv) (omega arith) last)

@@ -14,7 +14,7 @@ returns-then-is-empty c = breaks-space (c .args .most) (c .args .bytes .now) (c 
 ])
 
 pub returns-in-Ok : need.returns-in-Ok
-returns-in-Ok c = spaced (c .args .most) (c .args .bytes .now) (c .args .column) _ (parted 32 (c .args .bytes .now) (c .if-is-empty .ensures tt) (c .if-bytes-ne32 .left)) (c .in-Ok .value) (c .in-Ok .end) (c .in-Ok .ensures tt)
+returns-in-Ok c = spaced (parted 32 (c .if-is-empty .ensures tt) (c .if-bytes-ne32 .left)) (c .in-Ok .value) (c .in-Ok .end) (c .in-Ok .ensures tt)
 
 pub returns-in-Err : need.returns-in-Err
-returns-in-Err c = breaks-number (c .args .most) (c .args .bytes .now) (c .args .column) _ (parted 32 (c .args .bytes .now) (c .if-is-empty .ensures tt) (c .if-bytes-ne32 .left)) (c .in-Err .place) (c .in-Err .ensures tt)
+returns-in-Err c = breaks-number (parted 32 (c .if-is-empty .ensures tt) (c .if-bytes-ne32 .left)) (c .args .column) (c .in-Err .place) (c .in-Err .ensures tt)
