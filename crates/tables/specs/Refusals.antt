@@ -3,20 +3,26 @@ use Prim.Native.Nat.{ℕ}
 use Rattle.std.specs.declared.option.Option.{Option}
 use Rattle.std.specs.declared.option.Option.the-variants.{Some, None}
 use Rattle.tables.specs.declared.refusals.Refusal.{Refusal}
-use Rattle.tables.specs.declared.refusals.Refusal.the-variants.{OutOfRange, Endless, NoRoom, Unreadable, NoBook, NoMemory}
+use Rattle.tables.specs.declared.refusals.Refusal.the-variants.{OutOfRange, AlreadyAdmitted, Endless, NoRoom, CommonDivisor, BasesDiffer, Unreadable, NoBook, NoMemory}
 
 abbrev pub number-of : Refusal → Option ℕ
 number-of (OutOfRange value) = Some 1
+number-of (AlreadyAdmitted size) = Some 2
 number-of (Endless remainder) = Some 7
 number-of (NoRoom places) = Some 8
+number-of (CommonDivisor divisor) = Some 13
+number-of (BasesDiffer base) = Some 14
 number-of (Unreadable column) = Some 16
 number-of NoBook = Some 17
 number-of NoMemory = None
 
 abbrev pub place-of : Refusal → Option ℕ
 place-of (OutOfRange value) = Some value
+place-of (AlreadyAdmitted size) = Some size
 place-of (Endless remainder) = Some remainder
 place-of (NoRoom places) = Some places
+place-of (CommonDivisor divisor) = Some divisor
+place-of (BasesDiffer base) = Some base
 place-of (Unreadable column) = Some column
 place-of NoBook = Some 0
 place-of NoMemory = None

@@ -11,10 +11,16 @@ use std::fmt;
 pub enum Refusal {
     /// A base or a size is out of its range: this is the value.
     OutOfRange(u32),
+    /// The size is already in the row, or a pair's other unit is its base.
+    AlreadyAdmitted(u32),
     /// The missing loads never end: this is the lowest remainder whose entry is absent.
     Endless(u32),
     /// Memory is too short, or a sheet too long: this many places are needed, or allowed.
     NoRoom(usize),
+    /// Two sizes have a common divisor above 1: this is the greatest.
+    CommonDivisor(u32),
+    /// The bases of two sources differ: this is the second.
+    BasesDiffer(u32),
     /// No readable line goes on at this column, counted from 1.
     Unreadable(usize),
     /// A line needs a book, and none has been opened.
@@ -30,8 +36,11 @@ impl Refusal {
     {
         match self {
             Refusal::OutOfRange(_) => Some(1),
+            Refusal::AlreadyAdmitted(_) => Some(2),
             Refusal::Endless(_) => Some(7),
             Refusal::NoRoom(_) => Some(8),
+            Refusal::CommonDivisor(_) => Some(13),
+            Refusal::BasesDiffer(_) => Some(14),
             Refusal::Unreadable(_) => Some(16),
             Refusal::NoBook => Some(17),
             Refusal::NoMemory => None,
@@ -44,8 +53,11 @@ impl Refusal {
     {
         match self {
             Refusal::OutOfRange(value) => Some(u64::from(value)),
+            Refusal::AlreadyAdmitted(size) => Some(u64::from(size)),
             Refusal::Endless(remainder) => Some(u64::from(remainder)),
             Refusal::NoRoom(places) => Some(places as u64),
+            Refusal::CommonDivisor(divisor) => Some(u64::from(divisor)),
+            Refusal::BasesDiffer(base) => Some(u64::from(base)),
             Refusal::Unreadable(column) => Some(column as u64),
             Refusal::NoBook => Some(0),
             Refusal::NoMemory => None,

@@ -5,4 +5,6 @@ mod day_sheets;
 #[cfg(test)]
 mod opening;
 #[cfg(test)]
+mod pairs_and_meets;
+#[cfg(test)]
 mod reading;

@@ -1,0 +1,4 @@
+pub mod Euclid
+pub mod PairRows
+pub mod PairIs
+pub mod MeetLoads
