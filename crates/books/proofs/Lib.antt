@@ -1,2 +1,13 @@
 pub mod Begins
+pub mod Lists
+pub mod Inserted
+pub mod Multiples
+pub mod Mods
+pub mod Lows
+pub mod Walks
+pub mod Rounds
+pub mod Wholes
+pub mod Extends
 pub mod Held
+pub mod Refused
+pub mod Turned

@@ -1,17 +1,20 @@
 -- What each call on a book answers, and the book that it leaves.
 use mathlib.Core.Path.{_≡_}
-use mathlib.Core.Bool.{cond, _&&_}
+use mathlib.Core.Bool.{Bool, true, false, cond, _&&_}
 use mathlib.Core.List.{List, [], _∷_}
 use Prim.Native.Nat.{ℕ, _<_}
-use lib.Dec.{leb}
+use lib.Dec.{leb, ltb}
+use lib.ListN.{length}
+use Rattle.std.specs.Orderings.{Decides}
 use Rattle.std.specs.declared.option.Option.{Option}
 use Rattle.std.specs.declared.option.Option.the-variants.{Some, None}
 use Rattle.std.specs.declared.result.Result.{Result}
 use Rattle.std.specs.declared.result.Result.the-variants.{Ok, Err}
 use Rattle.tables.specs.declared.refusals.Refusal.{Refusal}
-use Rattle.tables.specs.declared.refusals.Refusal.the-variants.{OutOfRange, NoMemory}
+use Rattle.tables.specs.declared.refusals.Refusal.the-variants.{OutOfRange, AlreadyAdmitted, RowFull, NotAdmitted, NoMemory}
 use Rattle.books.specs.declared.book.Book.{Book}
 use Rattle.books.specs.Books.{row-of, table-of}
+use Rattle.books.specs.Units.{Spare, has, row-with}
 
 -- Why an open is refused: a base is from 1 to 4,096.
 abbrev pub open-refusal : ℕ → Option Refusal
@@ -31,3 +34,23 @@ Opens-unless None base (Err reason) = reason ≡ NoMemory
 
 abbrev pub Opens : ℕ → Result Book Refusal → Type 0
 Opens base r = Opens-unless (open-refusal base) base r
+
+-- A call that is refused for this reason leaves the book as it was; one that is not is done and leaves a book of this row.
+abbrev pub Turns : Option Refusal → List ℕ → Book → Result (Unit {0}) Refusal → Book → Type 0
+Turns (Some reason) row before r after = (r ≡ Err reason) × (after ≡ before)
+Turns None row before r after = (r ≡ Ok tt) × (row-of after ≡ row)
+
+-- Why an admit is refused: a size is from 1 to 65,535, is not in the row yet, and the row has fewer than sixteen units.
+abbrev pub admit-refusal : List ℕ → ℕ → Option Refusal
+admit-refusal row size =
+    cond (leb 1 size && leb size 65535)
+    (cond (has size row) (Some (AlreadyAdmitted size)) (cond (ltb (length row) 16) None (Some RowFull)))
+    (Some (OutOfRange size))
+
+abbrev pub Admits : Book → ℕ → Result (Unit {0}) Refusal → Book → Type 0
+Admits before size r after = Turns (admit-refusal (row-of before) size) (row-with size (row-of before)) before r after
+
+-- Whether an admitted size is a multiple of another; refused where it is not in the row.
+abbrev pub Spares : List ℕ → ℕ → Result Bool Refusal → Type 0
+Spares row size (Ok spare) = (has size row ≡ true) × Decides spare (Spare row size)
+Spares row size (Err reason) = (has size row ≡ false) × (reason ≡ NotAdmitted size)

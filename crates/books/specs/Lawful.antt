@@ -1,25 +1,44 @@
--- Why every book keeps the sentences of a source. The source cites this proof, so it stands among the definitions.
-use mathlib.Core.Path.{_≡_, sym, ap, subst, _∙_}
-use mathlib.Core.Logic.{inl, inr}
-use Prim.Native.Nat.{ℕ, _≤_, _<_, _%_}
+-- Why every book keeps the sentences of a source: its invariant gives the rules, and these a ceiling for its entries.
+-- The source cites this proof, so it stands among the definitions.
+use mathlib.Core.Path.{_≡_}
+use Prim.Native.Nat.{ℕ, _-_, _*_, _≤_, _<_, _%_}
 use native.Mathlib.Omega.{arith}
-use native.Mathlib.Nat.{zero-mod}
+use native.Mathlib.Nat.{mod-lt}
+use lib.ListN.{length}
+use Rattle.std.specs.Of.Vec.{vec-items, vec-len}
 use Rattle.std.specs.declared.option.Option.{Option}
 use Rattle.std.specs.declared.option.Option.the-variants.{Some, None}
-use Rattle.std.proofs.shelf.Tests.{cases-eq}
+use Rattle.std.proofs.shelf.Bits.{mul-le}
+use Rattle.std.proofs.shelf.Lists.{getD-past}
 use Rattle.tables.specs.Tables.{Lawful}
-use Rattle.tables.proofs.Entries.{same-entry, not-both}
+use Rattle.tables.specs.Rules.{Rules}
+use Rattle.tables.proofs.Tested.{rules-from}
+use Rattle.tables.proofs.Ceiling.{ceiling}
 use Rattle.books.specs.declared.book.Book.{Book}
 use Rattle.books.specs.Books.{table-of}
 
 module _ (book : Book) where
-  -- the one entry is 0 at 0
-  pub book-only : (r e : ℕ) → table-of book r ≡ Some e → (r ≡ 0) × (e ≡ 0)
-  book-only r e p =
-      elim (cases-eq r 0) [
-        | inl z ↦ (z, same-entry (table-of book r) e 0 p (ap (table-of book) z ∙ book .start))
-        | inr n ↦ absurd (not-both (table-of book r) e p (book .absent r (omega arith)))
-      ]
+  pub book-rules : Rules (book .base) (vec-items (book .others)) (table-of book)
+  book-rules =
+      rules-from (book .base) (vec-items (book .others)) (table-of book) (book .low) (book .start) (book .leaves) (book .closed) (book .stepped)
+
+  pub book-length : length (vec-items (book .entries)) ≡ book .base
+  book-length = omega (arith, book .entries .ok .0, book .full)
+
+  pub book-past : (r : ℕ) → book .base ≤ r → table-of book r ≡ None
+  book-past r h = getD-past (vec-items (book .entries)) r None (omega (arith, book-length))
+
+  pub book-below : (r e : ℕ) → table-of book r ≡ Some e → r < book .base
+  book-below r e p = omega (arith, book .leaves r e p, mod-lt e (book .low))
+
+  -- no entry is above 4,095 times 65,535
+  pub book-ceiling : (r e : ℕ) → table-of book r ≡ Some e → e ≤ 268365825
+  book-ceiling r e p =
+      omega (
+        arith,
+        ceiling (book .base) (vec-items (book .others)) (table-of book) book-rules (book .sized) 65535 (book .small) r e (book-below r e p) p,
+        mul-le (book .base - 1) 65535 4095 65535 (omega (arith, book .high)) (omega arith),
+      )
 
   pub book-lawful : Lawful (book .base) (table-of book)
   book-lawful =
@@ -27,7 +46,7 @@ module _ (book : Book) where
         low = book .low;
         high = book .high;
         zero = book .start;
-        past = λ r h. book .absent r (omega (arith, book .low));
-        leaves = λ r e p. ap (λ n. n % book .base) (book-only r e p .1) ∙ zero-mod (book .base) ∙ sym (book-only r e p .0);
-        fits = λ r e p. omega (arith, book-only r e p .1);
+        past = book-past;
+        leaves = book .leaves;
+        fits = λ r e p. omega (arith, book-ceiling r e p);
       }

@@ -1,6 +1,10 @@
 //! Books of unit sizes: a base, the other units of the row, and the true table of that row.
 
 mod book;
+mod rings;
+mod sizes;
+mod steps;
 
 pub use book::Book;
+pub use book::BookShowing;
 pub use book::BookSource;

@@ -2,7 +2,7 @@
 use mathlib.Core.Path.{_≡_, refl, sym, ap, subst, _∙_}
 use mathlib.Core.Bool.{true, cond}
 use mathlib.Core.List.{List, [], _∷_, _++_}
-use Prim.Native.Nat.{ℕ, suc, _+_, _-_}
+use Prim.Native.Nat.{ℕ, suc, _+_, _-_, _≤_}
 use native.Mathlib.Omega.{arith}
 use lib.Dec.{eqb}
 use lib.ListN.{length, getD}
@@ -12,7 +12,7 @@ use Rattle.std.proofs.shelf.Tests.{eqb-true, ne-eqb}
 use Rattle.tables.specs.declared.refusals.Refusal.{Refusal}
 use Rattle.tables.specs.declared.refusals.Refusal.the-variants.{Unreadable}
 use Rattle.lines.specs.declared.line.Line.{Line}
-use Rattle.lines.specs.declared.line.Line.the-variants.{Open, Largest, Gaps}
+use Rattle.lines.specs.declared.line.Line.the-variants.{Open, Admit, Make, Largest, Gaps}
 use Rattle.lines.specs.Lines.{text, Fits, Spells, Readable, Unread}
 use Rattle.lines.specs.Tails.{End, Spaced, Breaks}
 use Rattle.lines.specs.Texts.{Starts, Stops}
@@ -20,25 +20,45 @@ use Rattle.lines.proofs.Languages.{split, never, stops-under}
 
 abbrev pub letter : Line → ℕ
 letter (Open base) = 66
+letter (Admit size) = 65
+letter (Make load) = 77
 letter Largest = 76
 letter Gaps = 71
 
 abbrev pub tail : Line → List ℕ
 tail (Open base) = 32 ∷ (decimal base ++ (10 ∷ []))
+tail (Admit size) = 32 ∷ (decimal size ++ (10 ∷ []))
+tail (Make load) = 32 ∷ (decimal load ++ (10 ∷ []))
 tail Largest = 10 ∷ []
 tail Gaps = 10 ∷ []
 
 text-is : (line : Line) → text line ≡ letter line ∷ tail line
 text-is (Open base) = refl
+text-is (Admit size) = refl
+text-is (Make load) = refl
 text-is Largest = refl
 text-is Gaps = refl
 
+-- the language of a number and the end of the line
+abbrev Numeric : List ℕ → Type 0
+Numeric = Spaced 4294967295 End
+
 -- the language of what follows a letter; no text where no line has the letter
 abbrev Tail : ℕ → List ℕ → Type 0
-Tail x = cond (eqb x 66) (Spaced 4294967295 End) (cond (eqb x 76) End (cond (eqb x 71) End (λ t. ⊥)))
+Tail x =
+    cond (eqb x 66) Numeric
+    (cond (eqb x 65) Numeric
+    (cond (eqb x 77) Numeric
+    (cond (eqb x 76) End
+    (cond (eqb x 71) End (λ t. ⊥)))))
+
+numeric : (n : ℕ) → n ≤ 4294967295 → Numeric (32 ∷ (decimal n ++ (10 ∷ [])))
+numeric n fits = record { rest = decimal n ++ (10 ∷ []); follows = record { value = n; fits = fits; rest = 10 ∷ []; follows = refl; is = refl }; is = refl }
 
 sorts : (line : Line) → Fits line → Tail (letter line) (tail line)
-sorts (Open base) fits = record { rest = decimal base ++ (10 ∷ []); follows = record { value = base; fits = fits; rest = 10 ∷ []; follows = refl; is = refl }; is = refl }
+sorts (Open base) fits = numeric base fits
+sorts (Admit size) fits = numeric size fits
+sorts (Make load) fits = numeric load fits
 sorts Largest fits = refl
 sorts Gaps fits = refl
 
@@ -47,22 +67,21 @@ from-line x t r =
     let s = split (sym (text-is (r .line)) ∙ r .spells .is) in
     subst (λ (y : ℕ). Tail y t) (s .0) (subst (Tail (letter (r .line))) (s .1) (sorts (r .line) (r .spells .fits)))
 
-to-open : (t : List ℕ) → Tail 66 t → Readable (66 ∷ t)
-to-open t a =
+-- a letter with a number
+to-number : (x : ℕ) (mk : ℕ → Line) → ((n : ℕ) → n ≤ 4294967295 → Fits (mk n)) → ((n : ℕ) → text (mk n) ≡ x ∷ (32 ∷ (decimal n ++ (10 ∷ [])))) → (t : List ℕ) → Numeric t → Readable (x ∷ t)
+to-number x mk fits is t a =
     let n = a .follows in
     record {
-      line = Open (n .value);
+      line = mk (n .value);
       spells = record {
-        fits = n .fits;
-        is = ap (λ (u : List ℕ). 66 ∷ u) (ap (λ (u : List ℕ). 32 ∷ u) (ap (λ (u : List ℕ). decimal (n .value) ++ u) (sym (n .follows)) ∙ n .is) ∙ a .is);
+        fits = fits (n .value) (n .fits);
+        is = is (n .value) ∙ ap (λ (u : List ℕ). x ∷ u) (ap (λ (u : List ℕ). 32 ∷ u) (ap (λ (u : List ℕ). decimal (n .value) ++ u) (sym (n .follows)) ∙ n .is) ∙ a .is);
       };
     }
 
-to-largest : (t : List ℕ) → Tail 76 t → Readable (76 ∷ t)
-to-largest t e = record { line = Largest; spells = record { fits = tt; is = ap (λ (u : List ℕ). 76 ∷ u) (sym e) } }
-
-to-gaps : (t : List ℕ) → Tail 71 t → Readable (71 ∷ t)
-to-gaps t e = record { line = Gaps; spells = record { fits = tt; is = ap (λ (u : List ℕ). 71 ∷ u) (sym e) } }
+-- a letter alone
+to-alone : (x : ℕ) (line : Line) → Fits line → text line ≡ x ∷ (10 ∷ []) → (t : List ℕ) → End t → Readable (x ∷ t)
+to-alone x line fits is t e = record { line = line; spells = record { fits = fits; is = is ∙ ap (λ (u : List ℕ). x ∷ u) (sym e) } }
 
 -- Columns count from 1, so that what follows the letter begins at column 2.
 unread : (x : ℕ) → ((t : List ℕ) → Tail x t → Readable (x ∷ t)) → {bytes t : List ℕ} → bytes ≡ x ∷ t → {reason : Refusal} → Breaks (Tail x) t 2 reason → Unread bytes reason
@@ -77,17 +96,23 @@ unread x to {t = t} e b = record {
 }
 
 module _ {bytes t : List ℕ} {reason : Refusal} where
-  pub unread-open : bytes ≡ 66 ∷ t → Breaks (Spaced 4294967295 End) t 2 reason → Unread bytes reason
-  unread-open e = unread 66 to-open e
+  pub unread-open : bytes ≡ 66 ∷ t → Breaks Numeric t 2 reason → Unread bytes reason
+  unread-open e = unread 66 (to-number 66 Open (λ n h. h) (λ n. refl)) e
+
+  pub unread-admit : bytes ≡ 65 ∷ t → Breaks Numeric t 2 reason → Unread bytes reason
+  unread-admit e = unread 65 (to-number 65 Admit (λ n h. h) (λ n. refl)) e
+
+  pub unread-make : bytes ≡ 77 ∷ t → Breaks Numeric t 2 reason → Unread bytes reason
+  unread-make e = unread 77 (to-number 77 Make (λ n h. h) (λ n. refl)) e
 
   pub unread-largest : bytes ≡ 76 ∷ t → Breaks End t 2 reason → Unread bytes reason
-  unread-largest e = unread 76 to-largest e
+  unread-largest e = unread 76 (to-alone 76 Largest tt refl) e
 
   pub unread-gaps : bytes ≡ 71 ∷ t → Breaks End t 2 reason → Unread bytes reason
-  unread-gaps e = unread 71 to-gaps e
+  unread-gaps e = unread 71 (to-alone 71 Gaps tt refl) e
 
 starts-line : Starts Readable []
-starts-line = record { rest = 76 ∷ (10 ∷ []); whole = to-largest (10 ∷ []) refl }
+starts-line = record { rest = 76 ∷ (10 ∷ []); whole = to-alone 76 Largest tt refl (10 ∷ []) refl }
 
 -- the bytes begin with no letter of a line
 unread-first : (bytes : List ℕ) → ((t : List ℕ) → Tail (getD bytes 0 0) t → ⊥) → Unread bytes (Unreadable 1)
@@ -107,18 +132,20 @@ unread-first bytes none = record { column = 1; named = refl; from = omega arith;
       unread = λ r. none t (from-line x t r);
     }
 
-pub unread-other : (bytes : List ℕ) → (getD bytes 0 0 ≡ 66 → ⊥) → (getD bytes 0 0 ≡ 76 → ⊥) → (getD bytes 0 0 ≡ 71 → ⊥) → Unread bytes (Unreadable 1)
-unread-other bytes not-open not-largest not-gaps =
+pub unread-other : (bytes : List ℕ) → (getD bytes 0 0 ≡ 66 → ⊥) → (getD bytes 0 0 ≡ 65 → ⊥) → (getD bytes 0 0 ≡ 77 → ⊥) → (getD bytes 0 0 ≡ 76 → ⊥) → (getD bytes 0 0 ≡ 71 → ⊥) → Unread bytes (Unreadable 1)
+unread-other bytes not-open not-admit not-make not-largest not-gaps =
     let o = ne-eqb (getD bytes 0 0) 66 not-open in
+    let a = ne-eqb (getD bytes 0 0) 65 not-admit in
+    let m = ne-eqb (getD bytes 0 0) 77 not-make in
     let l = ne-eqb (getD bytes 0 0) 76 not-largest in
     let g = ne-eqb (getD bytes 0 0) 71 not-gaps in
-    unread-first bytes (λ t h. rw (o, l, g) at h)
+    unread-first bytes (λ t h. rw (o, a, m, l, g) at h)
 
 pub unread-empty : (bytes : List ℕ) → true ≡ eqb (length bytes) 0 → Unread bytes (Unreadable 1)
 unread-empty bytes none =
     let short = eqb-true (length bytes) 0 (sym none) in
     let past = getD-past bytes 0 0 (omega arith) in
-    unread-other bytes (λ e. omega arith) (λ e. omega arith) (λ e. omega arith)
+    unread-other bytes (λ e. omega arith) (λ e. omega arith) (λ e. omega arith) (λ e. omega arith) (λ e. omega arith)
 
 -- the letter of a line, and what follows it in the line, spell the line
 pub spells : (line : Line) → Fits line → {bytes t : List ℕ} → bytes ≡ letter line ∷ t → tail line ≡ t → Spells bytes line

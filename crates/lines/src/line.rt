@@ -10,6 +10,10 @@ use tables::Refusal;
 pub enum Line {
     /// `B` and a base: opens a book.
     Open(u32),
+    /// `A` and a size: admits a unit.
+    Admit(u32),
+    /// `M` and a load: asks with how many of each unit it can leave.
+    Make(u32),
     /// `L`: asks for the largest load that cannot leave.
     Largest,
     /// `G`: asks how many loads cannot leave.
@@ -27,6 +31,8 @@ pub fn read(bytes: &[u8]) -> Result<Line, Refusal>
     let rest = &bytes[1..];
     match char::from(bytes[0]) {
         'B' => Ok(Line::Open(last_number(rest, 2)?)),
+        'A' => Ok(Line::Admit(last_number(rest, 2)?)),
+        'M' => Ok(Line::Make(last_number(rest, 2)?)),
         'L' => {
             end(rest, 2)?;
             Ok(Line::Largest)

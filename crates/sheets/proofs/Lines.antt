@@ -9,7 +9,7 @@ use Rattle.std.specs.declared.option.Option.the-variants.{None}
 use Rattle.std.specs.declared.result.Result.{Result}
 use Rattle.tables.specs.declared.refusals.Refusal.{Refusal}
 use Rattle.sheets.specs.declared.answers.Answer.{Answer}
-use Rattle.sheets.specs.Answers.{Adds}
+use Rattle.sheets.specs.Answers.{Adds-line}
 use Rattle.sheets.specs.Lines.{Standing, Answers}
 use Rattle.sheets.specs.Sheets.{Prints, end, line}
 use Rattle.sheets.specs.Splitting.{lines-of}
@@ -25,7 +25,7 @@ sofar-none input = record { within = omega arith; few = omega arith; onward = λ
 pub sofar-more : (input : List ℕ) (at number to : ℕ) (before after : Standing) (outcome : Result Answer Refusal) (was is : List ℕ)
     → Sofar input at number before was → at < to → to ≤ length input
     → lines-of (drop at input) ≡ take (to - at) (drop at input) ∷ lines-of (drop to input)
-    → Answers before (take (to - at) (drop at input)) outcome after → Adds (number + 1) outcome was is
+    → Answers before (take (to - at) (drop at input)) outcome after → Adds-line (number + 1) outcome was is
     → Sofar input to (number + 1) after is
 sofar-more input at number to before after outcome was is sofar past within split answers adds =
     record {

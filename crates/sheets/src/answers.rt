@@ -1,17 +1,18 @@
 //! What a line answers, and how it is printed.
 
+ghost use lib.ListN.{length};
 ghost use mathlib.Core.List.{_++_};
 ghost use mathlib.Core.Path.{_≡_};
 ghost use Rattle.std.specs.Of.String.{string-bytes};
 ghost use Rattle.std.specs.Results.{Cases};
-ghost use Rattle.std.specs.declared.option.Option.the-variants.{Some};
-ghost use Rattle.sheets.specs.Answers.{Prints-one, answer-text};
-use std::fmt;
+ghost use Rattle.tables.specs.declared.refusals.Refusal.the-variants.{NoMemory};
+ghost use Rattle.sheets.specs.Answers.{Prints-line, Prints-outcome, numbers-text};
 use tables::Refusal;
+use tables::RefusalFromAlloc;
 use tables::RefusalFromFormat;
 
 /// What a line answers that is not refused.
-#[derive(Clone, Copy, PartialEq, Eq, Debug)]
+#[derive(Drop)]
 pub enum Answer {
     /// The call is done.
     Done,
@@ -19,36 +20,52 @@ pub enum Answer {
     Number(i64),
     /// A number of loads.
     Count(u64),
+    /// The number of each unit, in the order of the row.
+    Made(Vec<u32>),
 }
 
-pub impl fmt::Display for Answer as AnswerDisplay {
-    ghost shown = { λ a. Some (answer-text a) };
-
-    fn fmt<W: fmt::Write>(&self, f: &mut fmt::Formatter<W>) -> fmt::Result {
-        match self {
-            Answer::Done => write!(f, "ok"),
-            Answer::Number(number) => write!(f, "{number}"),
-            Answer::Count(count) => write!(f, "{count}"),
-        }
+/// Prints numbers with one space before each.
+fn print_numbers(out: &mut String, numbers: &[u32]) -> Result<(), Refusal>
+    ensures { λ r. ⌜ Cases r (λ _. string-bytes (now (out .exit)) ≡ string-bytes (now (out .entry)) ++ numbers-text (now (numbers .entry))) (λ reason. reason ≡ NoMemory) ⌝ }
+{
+    for n in numbers {
+        write!(out, " {n}")?;
     }
+    Ok(())
 }
 
-/// Prints a line's number and its outcome. Want of memory is no outcome to print: it ends the sheet.
-pub(crate) fn print(
+/// Prints an outcome with one space before each of its words. Want of memory is no outcome to print: it ends the sheet.
+pub(crate) fn print_outcome(
     out: &mut String,
-    line: usize,
     outcome: Result<Answer, Refusal>,
 ) -> Result<(), Refusal>
-    ensures { λ r. ⌜ Prints-one line outcome (string-bytes (now (out .entry))) r (string-bytes (now (out .exit))) ⌝ }
+    ensures { λ r. ⌜ Prints-outcome outcome (string-bytes (now (out .entry))) r (string-bytes (now (out .exit))) ⌝ }
 {
     match outcome {
-        Ok(answer) => writeln!(out, "{line} {answer}")?,
+        Ok(Answer::Done) => write!(out, " ok")?,
+        Ok(Answer::Number(number)) => write!(out, " {number}")?,
+        Ok(Answer::Count(count)) => write!(out, " {count}")?,
+        Ok(Answer::Made(numbers)) => print_numbers(out, numbers.as_slice())?,
         Err(refusal) => {
             let (Some(number), Some(place)) = (refusal.number(), refusal.place()) else {
                 return Err(refusal);
             };
-            writeln!(out, "{line} no {number} {place}")?
+            write!(out, " no {number} {place}")?
         }
     }
+    Ok(())
+}
+
+/// Prints a line's number and its outcome.
+pub(crate) fn print_line(
+    out: &mut String,
+    line: usize,
+    outcome: Result<Answer, Refusal>,
+) -> Result<(), Refusal>
+    ensures { λ r. ⌜ Prints-line line outcome (string-bytes (now (out .entry))) r (string-bytes (now (out .exit))) ⌝ }
+{
+    write!(out, "{line}")?;
+    print_outcome(out, outcome)?;
+    out.push('\n')?;
     Ok(())
 }

@@ -2,19 +2,36 @@
 
 ghost use mathlib.Core.Path.{_≡_};
 ghost use Rattle.std.specs.declared.option.Option.the-variants.{None};
-ghost use Rattle.sheets.specs.Lines.{Answers, Carries};
+ghost use Rattle.books.specs.Books.{row-of};
+ghost use Rattle.sheets.specs.Lines.{Answers, Carries, Makes-or-memory};
 ghost use Rattle.sheets.specs.Sheets.{Unless-memory, standing};
 use crate::answers::Answer;
 use books::Book;
+use books::BookShowing;
+use books::BookSource;
 use lines::Line;
 use lines::read;
 use std::alloc::Global;
 use tables::Refusal;
+use tables::RefusalFromAlloc;
+use tables::make;
+
+/// How many units a row has at most.
+const MOST_UNITS: usize = 16;
 
 /// What a sheet keeps from line to line: the book that an accepted line opened last.
 #[derive(Drop)]
 pub(crate) struct Sheet {
     book: Option<Book>,
+}
+
+/// The numbers of units that make a load, in the order of the book's row.
+fn make_load(heap: Global, book: &Book, load: u32) -> Result<Vec<u32>, Refusal>
+    ensures { λ r. ⌜ Makes-or-memory (row-of (now (book .entry))) load r ⌝ }
+{
+    let mut numbers = [0; MOST_UNITS];
+    let units = make(book, u64::from(load), &mut numbers)?;
+    Ok(Vec::from_slice(heap, &numbers[0..units])?)
 }
 
 impl Sheet {
@@ -34,6 +51,17 @@ impl Sheet {
                 self.book = Some(Book::open(heap, base)?);
                 Ok(Answer::Done)
             }
+            Line::Admit(size) => {
+                let Some(book) = &mut self.book else {
+                    return Err(Refusal::NoBook);
+                };
+                book.admit(size)?;
+                Ok(Answer::Done)
+            }
+            Line::Make(load) => {
+                let book = self.book.as_ref().ok_or(Refusal::NoBook)?;
+                Ok(Answer::Made(make_load(heap, book, load)?))
+            }
             Line::Largest => {
                 let book = self.book.as_ref().ok_or(Refusal::NoBook)?;
                 Ok(Answer::Number(book.largest()?))
@@ -44,6 +72,7 @@ impl Sheet {
             }
         }
     }
+
     /// Reads a line and carries it out. An unreadable line changes nothing.
     pub(crate) fn answer(&mut self, heap: Global, bytes: &[u8]) -> Result<Answer, Refusal>
         ensures { λ r. ⌜ Unless-memory r (Answers (standing (now (self .entry))) (now (bytes .entry)) r (standing (now (self .exit)))) ⌝ }

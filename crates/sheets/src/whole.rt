@@ -9,7 +9,7 @@ ghost use mathlib.Core.Path.{_≡_};
 ghost use Rattle.sheets.specs.Answers.{Printed};
 ghost use Rattle.sheets.specs.Sheets.{Prints, Sheet-prints};
 ghost use Rattle.sheets.specs.Splitting.{lines-of};
-use crate::answers::print;
+use crate::answers::print_line;
 use crate::sheet::Sheet;
 use crate::splitting::line_end;
 use std::alloc::Global;
@@ -30,7 +30,7 @@ fn answer_lines(heap: Global, input: &[u8]) -> Result<String, Refusal>
         let end = line_end(input, at);
         number += 1;
         let outcome = sheet.answer(heap, &input[at..end]);
-        print(&mut out, number, outcome)?;
+        print_line(&mut out, number, outcome)?;
         at = end;
     }
     Ok(out)
@@ -41,7 +41,7 @@ fn refuse_sheet(heap: Global, reason: Refusal) -> Result<String, Refusal>
     ensures { λ r. ⌜ Cases r (λ out. Printed 0 (Err reason) (string-bytes out)) (λ reason. reason ≡ NoMemory) ⌝ }
 {
     let mut out = String::new(heap);
-    print(&mut out, 0, Err(reason))?;
+    print_line(&mut out, 0, Err(reason))?;
     Ok(out)
 }
 

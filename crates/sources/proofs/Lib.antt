@@ -1,4 +1,5 @@
 pub mod Euclid
 pub mod PairRows
 pub mod PairIs
+pub mod PairSteps
 pub mod MeetLoads

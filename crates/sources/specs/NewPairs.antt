@@ -1,6 +1,6 @@
 -- What a new pair is, and why none is made.
 use mathlib.Core.Path.{_≡_}
-use mathlib.Core.List.{[], _∷_}
+use mathlib.Core.List.{List, [], _∷_}
 use mathlib.Core.Logic.{_⊎_}
 use Prim.Native.Nat.{ℕ, _≤_, _<_}
 use Rattle.std.specs.declared.option.Option.{Option}
@@ -17,6 +17,10 @@ use Rattle.tables.specs.declared.refusals.Refusal.the-variants.{OutOfRange, Alr
 -- The entries of a pair.
 abbrev pub pair-entry : Pair → ℕ → Option ℕ
 pair-entry pair = paired (pair .base) (pair .other) (pair .inverse)
+
+-- The row of a pair: its base and its other unit.
+abbrev pub pair-row : Pair → List ℕ
+pair-row pair = pair .base ∷ pair .other ∷ []
 
 -- n is 1 or more, up to a limit.
 abbrev pub In-range : ℕ → ℕ → Type 0

@@ -9,4 +9,5 @@ pub use meet::MeetSource;
 pub use meet::RefusalFromUnequal;
 pub use meet::Unequal;
 pub use pair::Pair;
+pub use pair::PairShowing;
 pub use pair::PairSource;

@@ -1,5 +1,6 @@
 //! Pairs: a base and one other unit with no common divisor above 1. Their entries are found with no table.
 
+mod showing;
 mod stored;
 
 ghost use mathlib.Core.Path.{_≡_};
@@ -8,6 +9,7 @@ ghost use Rattle.sources.specs.PairLaws.{paired-lawful};
 ghost use Rattle.std.specs.Results.{Cases};
 ghost use Rattle.tables.specs.declared.refusals.Refusal.the-variants.{OutOfRange};
 use crate::divisors::solve;
+pub use showing::PairShowing;
 pub use stored::Pair;
 use tables::Refusal;
 use tables::Source;

@@ -4,3 +4,14 @@ pub mod Sums
 pub mod Counted
 pub mod Makeable
 pub mod Unmade
+pub mod Back
+pub mod Leasts
+pub mod Certificate
+pub mod Firsts
+pub mod Tested
+pub mod Ceiling
+pub mod Computed
+pub mod Counts
+pub mod One
+pub mod Follows
+pub mod Loads

@@ -4,3 +4,7 @@ pub mod Written
 pub mod Missing
 pub mod Rows
 pub mod Unmade
+pub mod Rules
+pub mod Steps
+pub mod Tests
+pub mod Made

@@ -13,10 +13,18 @@ pub enum Refusal {
     OutOfRange(u32),
     /// The size is already in the row, or a pair's other unit is its base.
     AlreadyAdmitted(u32),
+    /// Sixteen units stand in the row.
+    RowFull,
+    /// The size is not in the row.
+    NotAdmitted(u32),
+    /// The row does not make the load, which leaves this remainder.
+    Unmakeable(u32),
     /// The missing loads never end: this is the lowest remainder whose entry is absent.
     Endless(u32),
     /// Memory is too short, or a sheet too long: this many places are needed, or allowed.
     NoRoom(usize),
+    /// The load is above 1,000,000,000.
+    LoadTooLarge,
     /// Two sizes have a common divisor above 1: this is the greatest.
     CommonDivisor(u32),
     /// The bases of two sources differ: this is the second.
@@ -37,8 +45,12 @@ impl Refusal {
         match self {
             Refusal::OutOfRange(_) => Some(1),
             Refusal::AlreadyAdmitted(_) => Some(2),
+            Refusal::RowFull => Some(3),
+            Refusal::NotAdmitted(_) => Some(4),
+            Refusal::Unmakeable(_) => Some(6),
             Refusal::Endless(_) => Some(7),
             Refusal::NoRoom(_) => Some(8),
+            Refusal::LoadTooLarge => Some(10),
             Refusal::CommonDivisor(_) => Some(13),
             Refusal::BasesDiffer(_) => Some(14),
             Refusal::Unreadable(_) => Some(16),
@@ -54,8 +66,12 @@ impl Refusal {
         match self {
             Refusal::OutOfRange(value) => Some(u64::from(value)),
             Refusal::AlreadyAdmitted(size) => Some(u64::from(size)),
+            Refusal::RowFull => Some(16),
+            Refusal::NotAdmitted(size) => Some(u64::from(size)),
+            Refusal::Unmakeable(remainder) => Some(u64::from(remainder)),
             Refusal::Endless(remainder) => Some(u64::from(remainder)),
             Refusal::NoRoom(places) => Some(places as u64),
+            Refusal::LoadTooLarge => Some(1_000_000_000),
             Refusal::CommonDivisor(divisor) => Some(u64::from(divisor)),
             Refusal::BasesDiffer(base) => Some(u64::from(base)),
             Refusal::Unreadable(column) => Some(column as u64),

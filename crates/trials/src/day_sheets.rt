@@ -22,6 +22,20 @@ fn the_sheet_of_the_guide(rt: LibcRuntime) -> Result<(), Fail> {
 }
 
 #[test]
+fn units_are_admitted_and_loads_made(rt: LibcRuntime) -> Result<(), Fail> {
+    prints(
+        &rt,
+        b"B 5\nA 8\nA 12\nL\nG\nM 24\nM 19\n",
+        "1 ok\n2 ok\n3 ok\n4 19\n5 10\n6 0 3 0\n7 no 6 4\n",
+    )?;
+    prints(
+        &rt,
+        b"A 8\nM 5\nB 5\nA 5\nA 65536\nA 8\nA 8\nM 1000000001\nB 7\nM 8\n",
+        "1 no 17 0\n2 no 17 0\n3 ok\n4 no 2 5\n5 no 1 65536\n6 ok\n7 no 2 8\n8 no 10 1000000000\n9 ok\n10 no 6 1\n",
+    )
+}
+
+#[test]
 fn no_line_loses_the_book(rt: LibcRuntime) -> Result<(), Fail> {
     prints(
         &rt,

@@ -1,6 +1,8 @@
 //! The worked examples, as tests of the public calls of the other crates.
 
 #[cfg(test)]
+mod admitting;
+#[cfg(test)]
 mod day_sheets;
 #[cfg(test)]
 mod opening;
@@ -8,3 +10,5 @@ mod opening;
 mod pairs_and_meets;
 #[cfg(test)]
 mod reading;
+#[cfg(test)]
+mod sample;

@@ -1,9 +1,7 @@
 //! Pairs and meets on small numbers.
 
-ghost use mathlib.Core.Path.{refl};
-ghost use Rattle.trials.specs.Sampled.{sampled};
-ghost use Rattle.tables.specs.Tables.{entry-of};
-ghost use Rattle.tables.specs.Written.{written-lawful};
+use crate::sample::Sample;
+use crate::sample::SampleSource;
 use sources::Meet;
 use sources::MeetSource;
 use sources::Pair;
@@ -17,33 +15,6 @@ use tables::RefusalPartialEq;
 use tables::Source;
 use tables::gaps;
 use tables::largest;
-
-/// A table of the base 5 that is written out: what the units 5, 8 and 12 make.
-#[derive(Clone, Copy)]
-struct Sample;
-
-impl Source for Sample as SampleSource {
-    ghost modulus = { λ _. 5 };
-
-    ghost entry = { λ _. entry-of sampled };
-
-    ghost lawful = { λ _. written-lawful sampled refl };
-
-    fn base(&self) -> u32 {
-        5
-    }
-
-    fn least(&self, remainder: u32) -> Option<u32> {
-        match remainder {
-            0 => Some(0),
-            1 => Some(16),
-            2 => Some(12),
-            3 => Some(8),
-            4 => Some(24),
-            _ => None,
-        }
-    }
-}
 
 /// Checks that the entries by the base 5 are these.
 fn check_entries<S: Source>(source: &S, entries: [u32; 5]) -> Result<(), Fail> {

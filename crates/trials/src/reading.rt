@@ -15,6 +15,8 @@ fn readable() -> Result<(), Fail> {
         ("B 5\n", Line::Open(5)),
         ("B 0\n", Line::Open(0)),
         ("B 4294967295\n", Line::Open(4294967295)),
+        ("A 65536\n", Line::Admit(65536)),
+        ("M 1000000001\n", Line::Make(1000000001)),
         ("L\n", Line::Largest),
         ("G\n", Line::Gaps),
     ];
@@ -42,7 +44,9 @@ fn unreadable() -> Result<(), Fail> {
         ("L \n", 2),
         ("L", 2),
         ("b 5\n", 1),
-        ("A 5\n", 1),
+        ("A\n", 2),
+        ("M 5x\n", 4),
+        ("W 5\n", 1),
     ];
     for (text, column) in cases {
         check_eq(read(text.as_bytes()), Err(Refusal::Unreadable(column))).note(text)?;

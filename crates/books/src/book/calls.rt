@@ -6,14 +6,21 @@ ghost use mathlib.Core.Path.{_≡_};
 ghost use Prim.Native.Nat.{_-_, _≤_};
 ghost use Rattle.std.specs.Of.Vec.{vec-cap, vec-items};
 ghost use Rattle.std.specs.declared.option.Option.the-variants.{None, Some};
-ghost use Rattle.books.specs.Calls.{Opens};
+ghost use Rattle.tables.specs.Rows.{Table};
+ghost use Rattle.books.specs.Books.{row-of, table-of};
+ghost use Rattle.books.specs.Calls.{Admits, Opens};
 use super::Book;
+use crate::rings::extend;
+use crate::sizes::find;
 use std::alloc::Global;
 use tables::Refusal;
 use tables::RefusalFromAlloc;
 
 /// The largest size that a base may have.
 const LARGEST_BASE: u32 = 4_096;
+
+/// The largest size that any other unit may have.
+const LARGEST_SIZE: u32 = 65_535;
 
 /// How many units may stand beside the base.
 const MOST_OTHERS: usize = 15;
@@ -50,5 +57,28 @@ impl Book {
             others,
             entries,
         })
+    }
+
+    /// Admits a unit of 1 to 65,535 parcels: its size takes its ascending place among the others, and the table becomes the
+    /// true one of the longer row. No entry can become too large for a table, since none is above 4,095 times 65,535.
+    pub fn admit(&mut self, size: u32) -> Result<(), Refusal>
+        ensures turns { λ r. ⌜ Admits (now (self .entry)) size r (now (self .exit)) ⌝ }
+        ensures table { λ _. ⌜ Table (row-of (now (self .exit))) (table-of (now (self .exit))) ⌝ }
+    {
+        if size < 1 || size > LARGEST_SIZE {
+            return Err(Refusal::OutOfRange(size));
+        }
+        if size == u32::from(self.base) {
+            return Err(Refusal::AlreadyAdmitted(size));
+        }
+        let Err(at) = find(self.others.as_slice(), size) else {
+            return Err(Refusal::AlreadyAdmitted(size));
+        };
+        if self.others.len() >= MOST_OTHERS {
+            return Err(Refusal::RowFull);
+        }
+        extend(&mut self.entries, size);
+        let _ = self.others.insert(at, size as u16);
+        Ok(())
     }
 }

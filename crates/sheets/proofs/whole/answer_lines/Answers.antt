@@ -6,7 +6,7 @@ use Rattle.sheets.proofs.whole.answer_lines.Needs as need
 
 pub loop-at-again : need.loop-at-again
 loop-at-again c =
-    let adds = c .in-Continue-print .ensures tt in
+    let adds = c .in-Continue-print-line .ensures tt in
     sofar-more (c .args .input .now) (c .loop-at .at) (c .loop-at .number) (c .line-end-end .result) (standing (c .loop-at .sheet)) (standing (c .answer-outcome .last .self))
     (c .answer-outcome .result) (string-bytes (c .loop-at .out)) _ (c .loop-at .inv) (c .line-end-end .ensures .after) (c .line-end-end .ensures .within) (c .line-end-end .ensures .line)
     (c .answer-outcome .ensures (printed-kept _ (c .answer-outcome .result) (adds .bytes) (adds .printed))) adds

@@ -1,0 +1,25 @@
+-- Which refusal the row and the argument give.
+use mathlib.Core.Path.{_≡_, refl}
+use mathlib.Core.List.{List, [], _∷_}
+use mathlib.Core.Bool.{Bool, true, false, cond, _||_, _&&_}
+use Prim.Native.Nat.{ℕ, suc, _≤_, _<_}
+use native.Mathlib.Omega.{arith}
+use lib.Dec.{eqb, ltb, leb}
+use lib.ListN.{length}
+use Rattle.std.specs.declared.option.Option.{Option}
+use Rattle.std.specs.declared.option.Option.the-variants.{Some, None}
+use Rattle.std.proofs.shelf.Tests.{le-leb, lt-ltb, le-ltb, eq-eqb, ne-eqb}
+use Rattle.tables.specs.declared.refusals.Refusal.{Refusal}
+use Rattle.tables.specs.declared.refusals.Refusal.the-variants.{AlreadyAdmitted, RowFull}
+use Rattle.books.specs.Units.{has}
+use Rattle.books.specs.Calls.{admit-refusal}
+
+module _ (base : ℕ) (xs : List ℕ) (g : ℕ) (apart : base ≡ g → ⊥) where
+  pub admit-there : 1 ≤ g → g ≤ 65535 → has g xs ≡ true → admit-refusal (base ∷ xs) g ≡ Some (AlreadyAdmitted g)
+  admit-there l h t = simp (le-leb 1 g l, le-leb g 65535 h, ne-eqb base g apart, t)
+
+  pub admit-full : 1 ≤ g → g ≤ 65535 → has g xs ≡ false → 15 ≤ length xs → admit-refusal (base ∷ xs) g ≡ Some RowFull
+  admit-full l h t n = simp (le-leb 1 g l, le-leb g 65535 h, ne-eqb base g apart, t, le-ltb (suc (length xs)) 16 (omega arith))
+
+  pub admit-fits : 1 ≤ g → g ≤ 65535 → has g xs ≡ false → length xs < 15 → admit-refusal (base ∷ xs) g ≡ None
+  admit-fits l h t n = simp (le-leb 1 g l, le-leb g 65535 h, ne-eqb base g apart, t, lt-ltb (suc (length xs)) 16 (omega arith))
