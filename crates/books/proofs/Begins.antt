@@ -14,7 +14,7 @@ use Rattle.std.proofs.shelf.Lists.{getD-replicate, getD-past, length-replicate}
 use Rattle.std.proofs.shelf.Tests.{cases-lt}
 use Rattle.tables.specs.Tables.{entry-of}
 use Rattle.tables.specs.Tests.{Leaves, All-closed, All-stepped}
-use Rattle.tables.proofs.Entries.{same-entry, not-both}
+use Rattle.tables.proofs.Entries.{entry-cases, same-entry, not-both}
 use Rattle.tables.proofs.Tested.{some-present}
 
 -- nothing is present past 0
@@ -39,6 +39,10 @@ module _ (m n : ℕ) (xs : List (Option ℕ)) (is : xs ≡ Some 0 ∷ replicate 
   pub begun-leaves : Leaves m (entry-of xs)
   begun-leaves r e p =
       let o = only r e p in ap (λ (z : ℕ). z % m) (o .1) ∙ zero-mod m ∙ sym (o .0)
+
+  pub begun-absent : (r : ℕ) → 0 < r → entry-of xs r ≡ None
+  begun-absent r above =
+      elim (entry-cases (entry-of xs r)) [ inl p ↦ p | inr q ↦ absurd (omega (arith, only r (q .0) (q .1) .0)) ]
 
   pub begun-closed : (others : List ℕ) → others ≡ [] → All-closed m others (entry-of xs)
   begun-closed others none r j h = absurd (omega (arith, ap (λ (zs : List ℕ). length zs) none))

@@ -1,6 +1,7 @@
 pub mod Begins
 pub mod Lists
 pub mod Inserted
+pub mod Removed
 pub mod Multiples
 pub mod Mods
 pub mod Lows
@@ -11,3 +12,11 @@ pub mod Extends
 pub mod Held
 pub mod Refused
 pub mod Turned
+pub mod Places
+pub mod Puts
+pub mod Waits
+pub mod Served
+pub mod Settles
+pub mod Reaches
+pub mod Filled
+pub mod Clears

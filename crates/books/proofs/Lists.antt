@@ -52,6 +52,9 @@ put-is g (x ∷ xs) (suc n) le below above =
     let le′ : x ≤ g = omega (arith, below 0 (omega arith)) in
     rw (le-ltb g x le′) (ap (λ (l : List ℕ). x ∷ l) (put-is g xs n (omega arith) (λ i h. below (suc i) (omega arith)) (λ h. above (omega arith))))
 
+pub located : (xs ys : List ℕ) (g : ℕ) (r : Result ℕ ℕ) → ys ≡ xs → Located ys g r → Located xs g r
+located xs ys g r e l = subst (λ (zs : List ℕ). Located zs g r) e l
+
 pub has-no-place : (g : ℕ) (xs ys : List ℕ) (at : ℕ) → ys ≡ xs → Rising xs → Located ys g (Err at) → has g xs ≡ false
 has-no-place g xs ys at e up l = has-none g xs (not-there g xs at up (subst (λ (zs : List ℕ). Located zs g (Err at)) e l))
 

@@ -9,7 +9,10 @@ use Rattle.std.specs.declared.result.Result.the-variants.{Ok, Err}
 use Rattle.tables.specs.declared.refusals.Refusal.{Refusal}
 use Rattle.books.specs.declared.book.Book.{Book}
 use Rattle.books.specs.Books.{row-of}
-use Rattle.books.specs.Calls.{Turns}
+use Rattle.books.specs.Calls.{Opened, Opens-unless, Turns}
+
+pub opens-accepted : (o : Option Refusal) (base : ℕ) (book : Book) → o ≡ None → Opened base book → Opens-unless o base (Ok book)
+opens-accepted o base book e h = subst (λ (p : Option Refusal). Opens-unless p base (Ok book)) (sym e) h
 
 pub turns-refused : (o : Option Refusal) (row : List ℕ) (before : Book) (reason : Refusal) → o ≡ Some reason → Turns o row before (Err reason) before
 turns-refused o row before reason e =

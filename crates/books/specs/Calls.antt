@@ -3,7 +3,7 @@ use mathlib.Core.Path.{_≡_}
 use mathlib.Core.Bool.{Bool, true, false, cond, _&&_}
 use mathlib.Core.List.{List, [], _∷_}
 use Prim.Native.Nat.{ℕ, _<_}
-use lib.Dec.{leb, ltb}
+use lib.Dec.{eqb, leb, ltb}
 use lib.ListN.{length}
 use Rattle.std.specs.Orderings.{Decides}
 use Rattle.std.specs.declared.option.Option.{Option}
@@ -11,10 +11,11 @@ use Rattle.std.specs.declared.option.Option.the-variants.{Some, None}
 use Rattle.std.specs.declared.result.Result.{Result}
 use Rattle.std.specs.declared.result.Result.the-variants.{Ok, Err}
 use Rattle.tables.specs.declared.refusals.Refusal.{Refusal}
-use Rattle.tables.specs.declared.refusals.Refusal.the-variants.{OutOfRange, AlreadyAdmitted, RowFull, NotAdmitted, NoMemory}
+use Rattle.tables.specs.declared.refusals.Refusal.the-variants.{OutOfRange, AlreadyAdmitted, RowFull, NotAdmitted, IsBase, NoRoom, NoMemory}
+use Rattle.tables.specs.Rows.{base-of}
 use Rattle.books.specs.declared.book.Book.{Book}
 use Rattle.books.specs.Books.{row-of, table-of}
-use Rattle.books.specs.Units.{Spare, has, row-with}
+use Rattle.books.specs.Units.{Spare, has, row-with, row-without}
 
 -- Why an open is refused: a base is from 1 to 4,096.
 abbrev pub open-refusal : ℕ → Option Refusal
@@ -49,6 +50,18 @@ admit-refusal row size =
 
 abbrev pub Admits : Book → ℕ → Result (Unit {0}) Refusal → Book → Type 0
 Admits before size r after = Turns (admit-refusal (row-of before) size) (row-with size (row-of before)) before r after
+
+-- Why a withdrawal is refused, where a strip of this many bytes is lent for it: the strip has a byte for each remainder, the base
+-- stays, and the size is in the row.
+abbrev pub withdraw-refusal : List ℕ → ℕ → ℕ → Option Refusal
+withdraw-refusal row size room =
+    cond (leb (base-of row) room)
+    (cond (eqb size (base-of row)) (Some (IsBase size)) (cond (has size row) None (Some (NotAdmitted size))))
+    (Some (NoRoom (base-of row)))
+
+abbrev pub Withdraws : Book → ℕ → ℕ → Result (Unit {0}) Refusal → Book → Type 0
+Withdraws before size room r after =
+    Turns (withdraw-refusal (row-of before) size room) (row-without size (row-of before)) before r after
 
 -- Whether an admitted size is a multiple of another; refused where it is not in the row.
 abbrev pub Spares : List ℕ → ℕ → Result Bool Refusal → Type 0

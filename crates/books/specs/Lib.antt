@@ -1,5 +1,9 @@
 pub mod Units
 pub mod Rings
+pub mod Candidates
+pub mod Merges
+pub mod Leasts
+pub mod Strips
 pub mod Books
 pub mod Lawful
 pub mod Calls

@@ -1,4 +1,4 @@
--- The units of a row beside its base: what holds of them, and how one more is put among them.
+-- The units of a row beside its base: what holds of them, and how one more is put among them or one of them left out.
 use mathlib.Core.Path.{_≡_}
 use mathlib.Core.List.{List, [], _∷_}
 use mathlib.Core.Bool.{Bool, true, false, cond, _||_}
@@ -38,6 +38,16 @@ put size (x ∷ xs) = cond (ltb size x) (size ∷ x ∷ xs) (x ∷ put size xs)
 abbrev pub row-with : ℕ → List ℕ → List ℕ
 row-with size [] = []
 row-with size (base ∷ others) = base ∷ put size others
+
+-- The sizes without this one.
+abbrev pub leave-out : ℕ → List ℕ → List ℕ
+leave-out size [] = []
+leave-out size (x ∷ xs) = cond (eqb x size) (leave-out size xs) (x ∷ leave-out size xs)
+
+-- A row without a unit among those after the base.
+abbrev pub row-without : ℕ → List ℕ → List ℕ
+row-without size [] = []
+row-without size (base ∷ others) = base ∷ leave-out size others
 
 -- What is found of a size in ascending sizes: its place, or the place that it would have.
 abbrev pub Located : List ℕ → ℕ → Result ℕ ℕ → Type 0

@@ -19,13 +19,15 @@ pub use source::BookSource;
 /// A book of unit sizes.
 ///
 /// The ghost fields hold of every book, whatever calls came before: the other units ascend, are in range and are not the
-/// base; there are at most fifteen of them; the memory that the book set aside when it was opened is still there; and its
-/// entries keep the rules by which they are the true table of the row.
+/// base; there are at most fifteen of them; the memory that the book set aside when it was opened is still there, among it the
+/// places of `order`, where a rebuild of the table puts the loads that it finds; and its entries keep the rules by which they
+/// are the true table of the row.
 #[derive(Drop)]
 pub struct Book {
     base: u16,
     others: Vec<u16>,
     entries: Vec<Option<u32>>,
+    order: Vec<u32>,
     ghost low: { 1 ≤ base },
     ghost high: { base ≤ 4096 },
     ghost sized: { Sized (vec-items others) },
@@ -36,6 +38,7 @@ pub struct Book {
     ghost room: { 15 ≤ vec-cap others },
     ghost full: { vec-len entries ≡ base },
     ghost space: { 4096 ≤ vec-cap entries },
+    ghost places: { vec-len order ≡ 4096 },
     ghost start: { entry-of (vec-items entries) 0 ≡ Some 0 },
     ghost leaves: { Leaves base (entry-of (vec-items entries)) },
     ghost closed: { All-closed base (vec-items others) (entry-of (vec-items entries)) },

@@ -1,6 +1,7 @@
 //! Books of unit sizes: a base, the other units of the row, and the true table of that row.
 
 mod book;
+mod rebuild;
 mod rings;
 mod sizes;
 mod steps;

@@ -12,7 +12,7 @@ use Rattle.std.proofs.shelf.Tests.{eqb-true, ne-eqb}
 use Rattle.tables.specs.declared.refusals.Refusal.{Refusal}
 use Rattle.tables.specs.declared.refusals.Refusal.the-variants.{Unreadable}
 use Rattle.lines.specs.declared.line.Line.{Line}
-use Rattle.lines.specs.declared.line.Line.the-variants.{Open, Admit, Make, Largest, Gaps}
+use Rattle.lines.specs.declared.line.Line.the-variants.{Open, Admit, Withdraw, Make, Largest, Gaps}
 use Rattle.lines.specs.Lines.{text, Fits, Spells, Readable, Unread}
 use Rattle.lines.specs.Tails.{End, Spaced, Breaks}
 use Rattle.lines.specs.Texts.{Starts, Stops}
@@ -21,6 +21,7 @@ use Rattle.lines.proofs.Languages.{split, never, stops-under}
 abbrev pub letter : Line → ℕ
 letter (Open base) = 66
 letter (Admit size) = 65
+letter (Withdraw size) = 87
 letter (Make load) = 77
 letter Largest = 76
 letter Gaps = 71
@@ -28,6 +29,7 @@ letter Gaps = 71
 abbrev pub tail : Line → List ℕ
 tail (Open base) = 32 ∷ (decimal base ++ (10 ∷ []))
 tail (Admit size) = 32 ∷ (decimal size ++ (10 ∷ []))
+tail (Withdraw size) = 32 ∷ (decimal size ++ (10 ∷ []))
 tail (Make load) = 32 ∷ (decimal load ++ (10 ∷ []))
 tail Largest = 10 ∷ []
 tail Gaps = 10 ∷ []
@@ -35,6 +37,7 @@ tail Gaps = 10 ∷ []
 text-is : (line : Line) → text line ≡ letter line ∷ tail line
 text-is (Open base) = refl
 text-is (Admit size) = refl
+text-is (Withdraw size) = refl
 text-is (Make load) = refl
 text-is Largest = refl
 text-is Gaps = refl
@@ -48,9 +51,10 @@ abbrev Tail : ℕ → List ℕ → Type 0
 Tail x =
     cond (eqb x 66) Numeric
     (cond (eqb x 65) Numeric
+    (cond (eqb x 87) Numeric
     (cond (eqb x 77) Numeric
     (cond (eqb x 76) End
-    (cond (eqb x 71) End (λ t. ⊥)))))
+    (cond (eqb x 71) End (λ t. ⊥))))))
 
 numeric : (n : ℕ) → n ≤ 4294967295 → Numeric (32 ∷ (decimal n ++ (10 ∷ [])))
 numeric n fits = record { rest = decimal n ++ (10 ∷ []); follows = record { value = n; fits = fits; rest = 10 ∷ []; follows = refl; is = refl }; is = refl }
@@ -58,6 +62,7 @@ numeric n fits = record { rest = decimal n ++ (10 ∷ []); follows = record { va
 sorts : (line : Line) → Fits line → Tail (letter line) (tail line)
 sorts (Open base) fits = numeric base fits
 sorts (Admit size) fits = numeric size fits
+sorts (Withdraw size) fits = numeric size fits
 sorts (Make load) fits = numeric load fits
 sorts Largest fits = refl
 sorts Gaps fits = refl
@@ -102,6 +107,9 @@ module _ {bytes t : List ℕ} {reason : Refusal} where
   pub unread-admit : bytes ≡ 65 ∷ t → Breaks Numeric t 2 reason → Unread bytes reason
   unread-admit e = unread 65 (to-number 65 Admit (λ n h. h) (λ n. refl)) e
 
+  pub unread-withdraw : bytes ≡ 87 ∷ t → Breaks Numeric t 2 reason → Unread bytes reason
+  unread-withdraw e = unread 87 (to-number 87 Withdraw (λ n h. h) (λ n. refl)) e
+
   pub unread-make : bytes ≡ 77 ∷ t → Breaks Numeric t 2 reason → Unread bytes reason
   unread-make e = unread 77 (to-number 77 Make (λ n h. h) (λ n. refl)) e
 
@@ -132,20 +140,21 @@ unread-first bytes none = record { column = 1; named = refl; from = omega arith;
       unread = λ r. none t (from-line x t r);
     }
 
-pub unread-other : (bytes : List ℕ) → (getD bytes 0 0 ≡ 66 → ⊥) → (getD bytes 0 0 ≡ 65 → ⊥) → (getD bytes 0 0 ≡ 77 → ⊥) → (getD bytes 0 0 ≡ 76 → ⊥) → (getD bytes 0 0 ≡ 71 → ⊥) → Unread bytes (Unreadable 1)
-unread-other bytes not-open not-admit not-make not-largest not-gaps =
+pub unread-other : (bytes : List ℕ) → (getD bytes 0 0 ≡ 66 → ⊥) → (getD bytes 0 0 ≡ 65 → ⊥) → (getD bytes 0 0 ≡ 87 → ⊥) → (getD bytes 0 0 ≡ 77 → ⊥) → (getD bytes 0 0 ≡ 76 → ⊥) → (getD bytes 0 0 ≡ 71 → ⊥) → Unread bytes (Unreadable 1)
+unread-other bytes not-open not-admit not-withdraw not-make not-largest not-gaps =
     let o = ne-eqb (getD bytes 0 0) 66 not-open in
     let a = ne-eqb (getD bytes 0 0) 65 not-admit in
+    let w = ne-eqb (getD bytes 0 0) 87 not-withdraw in
     let m = ne-eqb (getD bytes 0 0) 77 not-make in
     let l = ne-eqb (getD bytes 0 0) 76 not-largest in
     let g = ne-eqb (getD bytes 0 0) 71 not-gaps in
-    unread-first bytes (λ t h. rw (o, a, m, l, g) at h)
+    unread-first bytes (λ t h. rw (o, a, w, m, l, g) at h)
 
 pub unread-empty : (bytes : List ℕ) → true ≡ eqb (length bytes) 0 → Unread bytes (Unreadable 1)
 unread-empty bytes none =
     let short = eqb-true (length bytes) 0 (sym none) in
     let past = getD-past bytes 0 0 (omega arith) in
-    unread-other bytes (λ e. omega arith) (λ e. omega arith) (λ e. omega arith) (λ e. omega arith) (λ e. omega arith)
+    unread-other bytes (λ e. omega arith) (λ e. omega arith) (λ e. omega arith) (λ e. omega arith) (λ e. omega arith) (λ e. omega arith)
 
 -- the letter of a line, and what follows it in the line, spell the line
 pub spells : (line : Line) → Fits line → {bytes t : List ℕ} → bytes ≡ letter line ∷ t → tail line ≡ t → Spells bytes line

@@ -8,13 +8,14 @@ use Rattle.std.specs.declared.result.Result.the-variants.{Ok, Err}
 use Rattle.tables.specs.declared.refusals.Refusal.{Refusal}
 use Rattle.tables.specs.declared.refusals.Refusal.the-variants.{Unreadable}
 use Rattle.lines.specs.declared.line.Line.{Line}
-use Rattle.lines.specs.declared.line.Line.the-variants.{Open, Admit, Make, Largest, Gaps}
+use Rattle.lines.specs.declared.line.Line.the-variants.{Open, Admit, Withdraw, Make, Largest, Gaps}
 use Rattle.lines.specs.Texts.{Stops}
 
 -- The text of a line: its letter, each number as it is written, with one space before it and no leading 0, and byte 10.
 abbrev pub text : Line → List ℕ
 text (Open base) = 66 ∷ (32 ∷ (decimal base ++ (10 ∷ [])))
 text (Admit size) = 65 ∷ (32 ∷ (decimal size ++ (10 ∷ [])))
+text (Withdraw size) = 87 ∷ (32 ∷ (decimal size ++ (10 ∷ [])))
 text (Make load) = 77 ∷ (32 ∷ (decimal load ++ (10 ∷ [])))
 text Largest = 76 ∷ (10 ∷ [])
 text Gaps = 71 ∷ (10 ∷ [])
@@ -23,6 +24,7 @@ text Gaps = 71 ∷ (10 ∷ [])
 abbrev pub Fits : Line → Type 0
 Fits (Open base) = base ≤ 4294967295
 Fits (Admit size) = size ≤ 4294967295
+Fits (Withdraw size) = size ≤ 4294967295
 Fits (Make load) = load ≤ 4294967295
 Fits Largest = Unit {0}
 Fits Gaps = Unit {0}

@@ -12,6 +12,8 @@ pub enum Line {
     Open(u32),
     /// `A` and a size: admits a unit.
     Admit(u32),
+    /// `W` and a size: withdraws a unit.
+    Withdraw(u32),
     /// `M` and a load: asks with how many of each unit it can leave.
     Make(u32),
     /// `L`: asks for the largest load that cannot leave.
@@ -32,6 +34,7 @@ pub fn read(bytes: &[u8]) -> Result<Line, Refusal>
     match char::from(bytes[0]) {
         'B' => Ok(Line::Open(last_number(rest, 2)?)),
         'A' => Ok(Line::Admit(last_number(rest, 2)?)),
+        'W' => Ok(Line::Withdraw(last_number(rest, 2)?)),
         'M' => Ok(Line::Make(last_number(rest, 2)?)),
         'L' => {
             end(rest, 2)?;

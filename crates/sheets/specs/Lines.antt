@@ -15,11 +15,11 @@ use Rattle.tables.specs.Rows.{Makes}
 use Rattle.tables.specs.Unmade.{Row-unending}
 use Rattle.tables.specs.declared.refusals.Refusal.{Refusal}
 use Rattle.tables.specs.declared.refusals.Refusal.the-variants.{NoBook, NoMemory}
-use Rattle.books.specs.Calls.{admit-refusal, open-refusal}
-use Rattle.books.specs.Units.{row-with}
+use Rattle.books.specs.Calls.{admit-refusal, open-refusal, withdraw-refusal}
+use Rattle.books.specs.Units.{row-with, row-without}
 use Rattle.lines.specs.Lines.{Spells, Unread}
 use Rattle.lines.specs.declared.line.Line.{Line}
-use Rattle.lines.specs.declared.line.Line.the-variants.{Open, Admit, Make, Largest, Gaps}
+use Rattle.lines.specs.declared.line.Line.the-variants.{Open, Admit, Withdraw, Make, Largest, Gaps}
 use Rattle.sheets.specs.declared.answers.Answer.{Answer}
 use Rattle.sheets.specs.declared.answers.Answer.the-variants.{Done, Number, Count, Made}
 
@@ -78,10 +78,16 @@ abbrev pub Admits-size : ℕ → Standing → Result Answer Refusal → Standing
 Admits-size size None outcome after = (outcome ≡ Err NoBook) × (after ≡ None)
 Admits-size size (Some row) outcome after = Turns-row (admit-refusal row size) row (row-with size row) outcome after
 
+-- A withdrawal has a strip of 4,096 bytes, enough for every base.
+abbrev pub Withdraws-size : ℕ → Standing → Result Answer Refusal → Standing → Type 0
+Withdraws-size size None outcome after = (outcome ≡ Err NoBook) × (after ≡ None)
+Withdraws-size size (Some row) outcome after = Turns-row (withdraw-refusal row size 4096) row (row-without size row) outcome after
+
 -- What a readable line answers, and what stands after it.
 abbrev pub Carries : Standing → Line → Result Answer Refusal → Standing → Type 0
 Carries before (Open base) outcome after = Opens-or (open-refusal base) base before outcome after
 Carries before (Admit size) outcome after = Admits-size size before outcome after
+Carries before (Withdraw size) outcome after = Withdraws-size size before outcome after
 Carries before (Make load) outcome after = Asks (Answers-make load) before outcome after
 Carries before Largest outcome after = Asks Answers-largest before outcome after
 Carries before Gaps outcome after = Asks Answers-gaps before outcome after

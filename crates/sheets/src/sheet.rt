@@ -1,5 +1,6 @@
 //! A sheet that is being carried out: the book that stands, and what each line does and answers.
 
+ghost use lib.ListN.{length};
 ghost use mathlib.Core.Path.{_≡_};
 ghost use Rattle.std.specs.declared.option.Option.the-variants.{None};
 ghost use Rattle.books.specs.Books.{row-of};
@@ -42,8 +43,9 @@ impl Sheet {
         Sheet { book: None }
     }
 
-    /// Carries a readable line out.
-    fn carry_out(&mut self, heap: Global, line: Line) -> Result<Answer, Refusal>
+    /// Carries a readable line out, with a strip for a withdrawal to work in.
+    fn carry_out(&mut self, heap: Global, line: Line, strip: &mut [u8]) -> Result<Answer, Refusal>
+        requires { ⌜ length (now strip) ≡ 4096 ⌝ }
         ensures { λ r. ⌜ Unless-memory r (Carries (standing (now (self .entry))) line r (standing (now (self .exit)))) ⌝ }
     {
         match line {
@@ -56,6 +58,13 @@ impl Sheet {
                     return Err(Refusal::NoBook);
                 };
                 book.admit(size)?;
+                Ok(Answer::Done)
+            }
+            Line::Withdraw(size) => {
+                let Some(book) = &mut self.book else {
+                    return Err(Refusal::NoBook);
+                };
+                book.withdraw(size, strip)?;
                 Ok(Answer::Done)
             }
             Line::Make(load) => {
@@ -74,10 +83,16 @@ impl Sheet {
     }
 
     /// Reads a line and carries it out. An unreadable line changes nothing.
-    pub(crate) fn answer(&mut self, heap: Global, bytes: &[u8]) -> Result<Answer, Refusal>
+    pub(crate) fn answer(
+        &mut self,
+        heap: Global,
+        bytes: &[u8],
+        strip: &mut [u8],
+    ) -> Result<Answer, Refusal>
+        requires { ⌜ length (now strip) ≡ 4096 ⌝ }
         ensures { λ r. ⌜ Unless-memory r (Answers (standing (now (self .entry))) (now (bytes .entry)) r (standing (now (self .exit)))) ⌝ }
     {
         let line = read(bytes)?;
-        self.carry_out(heap, line)
+        self.carry_out(heap, line, strip)
     }
 }

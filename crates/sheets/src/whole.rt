@@ -1,5 +1,6 @@
 //! A whole sheet: its lines in their order, and the two inputs that are refused as a whole.
 
+ghost use lib.ListN.{length};
 ghost use Rattle.std.specs.Of.String.{string-bytes};
 ghost use Rattle.std.specs.Results.{Cases};
 ghost use Rattle.std.specs.declared.option.Option.the-variants.{None};
@@ -14,12 +15,17 @@ use crate::sheet::Sheet;
 use crate::splitting::line_end;
 use std::alloc::Global;
 use tables::Refusal;
+use tables::RefusalFromAlloc;
 
 /// How many bytes a sheet may have.
 pub const LONGEST: usize = 65_536;
 
-/// What the lines of an input print.
-fn answer_lines(heap: Global, input: &[u8]) -> Result<String, Refusal>
+/// How many bytes the strip of a withdrawal has: one for each remainder by the largest base.
+const STRIP: usize = 4_096;
+
+/// What the lines of an input print, with a strip for withdrawals to work in.
+fn answer_lines(heap: Global, input: &[u8], strip: &mut [u8]) -> Result<String, Refusal>
+    requires { ⌜ length (now strip) ≡ 4096 ⌝ }
     ensures { λ r. ⌜ Cases r (λ out. Prints 1 None (lines-of (now (input .entry))) (string-bytes out)) (λ reason. reason ≡ NoMemory) ⌝ }
 {
     let mut out = String::new(heap);
@@ -29,7 +35,7 @@ fn answer_lines(heap: Global, input: &[u8]) -> Result<String, Refusal>
     while at < input.len() {
         let end = line_end(input, at);
         number += 1;
-        let outcome = sheet.answer(heap, &input[at..end]);
+        let outcome = sheet.answer(heap, &input[at..end], strip);
         print_line(&mut out, number, outcome)?;
         at = end;
     }
@@ -55,5 +61,6 @@ pub fn answer_sheet(heap: Global, input: &[u8]) -> Result<String, Refusal>
     if input.is_empty() {
         return refuse_sheet(heap, Refusal::Unreadable(1));
     }
-    answer_lines(heap, input)
+    let mut strip = vec![in heap; 0; STRIP]?;
+    answer_lines(heap, input, strip.as_mut_slice())
 }

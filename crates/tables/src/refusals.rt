@@ -17,6 +17,8 @@ pub enum Refusal {
     RowFull,
     /// The size is not in the row.
     NotAdmitted(u32),
+    /// The size is the base, which cannot be withdrawn.
+    IsBase(u32),
     /// The row does not make the load, which leaves this remainder.
     Unmakeable(u32),
     /// The missing loads never end: this is the lowest remainder whose entry is absent.
@@ -29,6 +31,8 @@ pub enum Refusal {
     CommonDivisor(u32),
     /// The bases of two sources differ: this is the second.
     BasesDiffer(u32),
+    /// The waiting list is full: this is its capacity.
+    ListFull(usize),
     /// No readable line goes on at this column, counted from 1.
     Unreadable(usize),
     /// A line needs a book, and none has been opened.
@@ -47,12 +51,14 @@ impl Refusal {
             Refusal::AlreadyAdmitted(_) => Some(2),
             Refusal::RowFull => Some(3),
             Refusal::NotAdmitted(_) => Some(4),
+            Refusal::IsBase(_) => Some(5),
             Refusal::Unmakeable(_) => Some(6),
             Refusal::Endless(_) => Some(7),
             Refusal::NoRoom(_) => Some(8),
             Refusal::LoadTooLarge => Some(10),
             Refusal::CommonDivisor(_) => Some(13),
             Refusal::BasesDiffer(_) => Some(14),
+            Refusal::ListFull(_) => Some(15),
             Refusal::Unreadable(_) => Some(16),
             Refusal::NoBook => Some(17),
             Refusal::NoMemory => None,
@@ -68,12 +74,14 @@ impl Refusal {
             Refusal::AlreadyAdmitted(size) => Some(u64::from(size)),
             Refusal::RowFull => Some(16),
             Refusal::NotAdmitted(size) => Some(u64::from(size)),
+            Refusal::IsBase(size) => Some(u64::from(size)),
             Refusal::Unmakeable(remainder) => Some(u64::from(remainder)),
             Refusal::Endless(remainder) => Some(u64::from(remainder)),
             Refusal::NoRoom(places) => Some(places as u64),
             Refusal::LoadTooLarge => Some(1_000_000_000),
             Refusal::CommonDivisor(divisor) => Some(u64::from(divisor)),
             Refusal::BasesDiffer(base) => Some(u64::from(base)),
+            Refusal::ListFull(capacity) => Some(capacity as u64),
             Refusal::Unreadable(column) => Some(column as u64),
             Refusal::NoBook => Some(0),
             Refusal::NoMemory => None,

@@ -36,6 +36,20 @@ fn units_are_admitted_and_loads_made(rt: LibcRuntime) -> Result<(), Fail> {
 }
 
 #[test]
+fn units_are_withdrawn(rt: LibcRuntime) -> Result<(), Fail> {
+    prints(
+        &rt,
+        b"B 5\nA 8\nA 12\nW 8\nL\nG\nM 16\n",
+        "1 ok\n2 ok\n3 ok\n4 ok\n5 43\n6 22\n7 no 6 1\n",
+    )?;
+    prints(
+        &rt,
+        b"W 8\nB 4096\nA 65535\nW 4096\nW 7\nW 65535\nW 65535\n",
+        "1 no 17 0\n2 ok\n3 ok\n4 no 5 4096\n5 no 4 7\n6 ok\n7 no 4 65535\n",
+    )
+}
+
+#[test]
 fn no_line_loses_the_book(rt: LibcRuntime) -> Result<(), Fail> {
     prints(
         &rt,

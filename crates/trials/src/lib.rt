@@ -5,6 +5,8 @@ mod admitting;
 #[cfg(test)]
 mod day_sheets;
 #[cfg(test)]
+mod lists;
+#[cfg(test)]
 mod opening;
 #[cfg(test)]
 mod pairs_and_meets;
@@ -12,3 +14,5 @@ mod pairs_and_meets;
 mod reading;
 #[cfg(test)]
 mod sample;
+#[cfg(test)]
+mod withdrawing;

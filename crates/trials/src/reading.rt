@@ -16,6 +16,7 @@ fn readable() -> Result<(), Fail> {
         ("B 0\n", Line::Open(0)),
         ("B 4294967295\n", Line::Open(4294967295)),
         ("A 65536\n", Line::Admit(65536)),
+        ("W 8\n", Line::Withdraw(8)),
         ("M 1000000001\n", Line::Make(1000000001)),
         ("L\n", Line::Largest),
         ("G\n", Line::Gaps),
@@ -46,7 +47,7 @@ fn unreadable() -> Result<(), Fail> {
         ("b 5\n", 1),
         ("A\n", 2),
         ("M 5x\n", 4),
-        ("W 5\n", 1),
+        ("T 5\n", 1),
     ];
     for (text, column) in cases {
         check_eq(read(text.as_bytes()), Err(Refusal::Unreadable(column))).note(text)?;

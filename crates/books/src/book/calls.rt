@@ -1,6 +1,6 @@
 //! The calls that make a book and change its row.
 
-ghost use lib.ListN.{replicate};
+ghost use lib.ListN.{length, replicate};
 ghost use mathlib.Core.List.{_∷_};
 ghost use mathlib.Core.Path.{_≡_};
 ghost use Prim.Native.Nat.{_-_, _≤_};
@@ -8,8 +8,11 @@ ghost use Rattle.std.specs.Of.Vec.{vec-cap, vec-items};
 ghost use Rattle.std.specs.declared.option.Option.the-variants.{None, Some};
 ghost use Rattle.tables.specs.Rows.{Table};
 ghost use Rattle.books.specs.Books.{row-of, table-of};
-ghost use Rattle.books.specs.Calls.{Admits, Opens};
+ghost use Rattle.books.specs.Calls.{Admits, Opens, Withdraws};
+ghost use Rattle.books.specs.Strips.{Strip-left};
 use super::Book;
+use crate::rebuild::Marks;
+use crate::rebuild::rebuild;
 use crate::rings::extend;
 use crate::sizes::find;
 use std::alloc::Global;
@@ -50,12 +53,14 @@ impl Book {
         }
         let others = Vec::with_capacity(heap, MOST_OTHERS)?;
         let mut entries = Vec::with_capacity(heap, LARGEST_BASE as usize)?;
+        let order = vec![in heap; 0; LARGEST_BASE as usize]?;
         let base = base as u16;
         begin(&mut entries, base);
         Ok(Book {
             base,
             others,
             entries,
+            order,
         })
     }
 
@@ -79,6 +84,37 @@ impl Book {
         }
         extend(&mut self.entries, size);
         let _ = self.others.insert(at, size as u16);
+        Ok(())
+    }
+
+    /// Withdraws an admitted unit other than the base: its size leaves the row, and the table becomes the true one of the
+    /// smaller row, built afresh. The strip is lent for marks, a byte for each remainder. Those bytes are 0 again afterwards,
+    /// whatever they were, done or refused, and the others are not touched; only a strip that is too short stays as it was.
+    pub fn withdraw(&mut self, size: u32, strip: &mut [u8]) -> Result<(), Refusal>
+        ensures turns { λ r. ⌜ Withdraws (now (self .entry)) size (length (now (strip .entry))) r (now (self .exit)) ⌝ }
+        ensures strip { λ r. ⌜ Strip-left (now (self .entry) .base) (now (strip .entry)) (now (strip .exit)) r ⌝ }
+        ensures table { λ _. ⌜ Table (row-of (now (self .exit))) (table-of (now (self .exit))) ⌝ }
+    {
+        let m = usize::from(self.base);
+        if strip.len() < m {
+            return Err(Refusal::NoRoom(m));
+        }
+        let marks = Marks { strip, m };
+        let base = u32::from(self.base);
+        if size == base {
+            return Err(Refusal::IsBase(size));
+        }
+        let Ok(at) = find(self.others.as_slice(), size) else {
+            return Err(Refusal::NotAdmitted(size));
+        };
+        let _ = self.others.remove(at);
+        rebuild(
+            base,
+            &self.others,
+            &mut self.entries,
+            marks.strip,
+            &mut self.order,
+        );
         Ok(())
     }
 }

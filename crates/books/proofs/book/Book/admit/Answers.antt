@@ -113,7 +113,7 @@ ghost-self c =
     let leaves = leaves-from (book .base) units (entry-of nu) (book .low) past (kept c) in
     let closed = closed-from (book .base) units (entry-of nu) (book .low) past (kept c) in
     let stepped = stepped-from (book .base) units (entry-of nu) (book .low) past (kept c) in
-    (book .low, (book .high, (sized, (small, (rising, (apart, (few, (room, (full, (space, (start, (leaves, (closed, (stepped, tt))))))))))))))
+    (book .low, (book .high, (sized, (small, (rising, (apart, (few, (room, (full, (space, (book .places, (start, (leaves, (closed, (stepped, tt)))))))))))))))
 
 pub returns : need.returns
 returns c =
