@@ -9,9 +9,11 @@ pub mod Walks
 pub mod Rounds
 pub mod Wholes
 pub mod Extends
+pub mod Filed
 pub mod Held
 pub mod Refused
 pub mod Turned
+pub mod Runs
 pub mod Places
 pub mod Puts
 pub mod Waits

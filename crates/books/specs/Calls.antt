@@ -5,6 +5,9 @@ use mathlib.Core.List.{List, [], _∷_}
 use Prim.Native.Nat.{ℕ, _<_}
 use lib.Dec.{eqb, leb, ltb}
 use lib.ListN.{length}
+use Rattle.files.specs.Judged.{Judges, True-file}
+use Rattle.files.specs.Layout.{file-entry, file-row}
+use Rattle.files.specs.Written.{written}
 use Rattle.std.specs.Orderings.{Decides}
 use Rattle.std.specs.declared.option.Option.{Option}
 use Rattle.std.specs.declared.option.Option.the-variants.{Some, None}
@@ -67,3 +70,15 @@ Withdraws before size room r after =
 abbrev pub Spares : List ℕ → ℕ → Result Bool Refusal → Type 0
 Spares row size (Ok spare) = (has size row ≡ true) × Decides spare (Spare row size)
 Spares row size (Err reason) = (has size row ≡ false) × (reason ≡ NotAdmitted size)
+
+-- The row and the entries are those that the file lists, and saving the book gives the file's bytes again.
+pub record Restored (bytes : List ℕ) (after : Book) : Type 0 where
+  pub accepted : True-file bytes
+  pub row : row-of after ≡ file-row bytes
+  pub entries : (r : ℕ) → table-of after r ≡ file-entry bytes r
+  pub again : written (row-of after) (table-of after) ≡ bytes
+
+-- A file is restored exactly where it is a true one; any other is refused as its judging says, and leaves the book as it was.
+abbrev pub Restores : Book → List ℕ → Result (Unit {0}) Refusal → Book → Type 0
+Restores before bytes (Ok done) after = Restored bytes after
+Restores before bytes (Err reason) after = Judges {X = Unit {0}} bytes (Err reason) × (after ≡ before)

@@ -7,3 +7,5 @@ pub mod Strips
 pub mod Books
 pub mod Lawful
 pub mod Calls
+pub mod Pasts
+pub mod Surveys

@@ -10,6 +10,7 @@ ghost use Rattle.books.specs.Units.{Apart, Rising, Sized, Small};
 
 mod answers;
 mod calls;
+mod filing;
 mod showing;
 mod source;
 

@@ -5,7 +5,10 @@ mod rebuild;
 mod rings;
 mod sizes;
 mod steps;
+mod surveys;
 
 pub use book::Book;
 pub use book::BookShowing;
 pub use book::BookSource;
+pub use surveys::Findings;
+pub use surveys::survey;

@@ -3,7 +3,7 @@ use Prim.Native.Nat.{ℕ}
 use Rattle.std.specs.declared.option.Option.{Option}
 use Rattle.std.specs.declared.option.Option.the-variants.{Some, None}
 use Rattle.tables.specs.declared.refusals.Refusal.{Refusal}
-use Rattle.tables.specs.declared.refusals.Refusal.the-variants.{OutOfRange, AlreadyAdmitted, RowFull, NotAdmitted, IsBase, Unmakeable, Endless, NoRoom, LoadTooLarge, CommonDivisor, BasesDiffer, ListFull, Unreadable, NoBook, NoMemory}
+use Rattle.tables.specs.declared.refusals.Refusal.the-variants.{OutOfRange, AlreadyAdmitted, RowFull, NotAdmitted, IsBase, Unmakeable, Endless, NoRoom, LoadTooLarge, Malformed, Untrue, CommonDivisor, BasesDiffer, ListFull, Unreadable, NoBook, NoMemory}
 
 abbrev pub number-of : Refusal → Option ℕ
 number-of (OutOfRange value) = Some 1
@@ -15,6 +15,8 @@ number-of (Unmakeable remainder) = Some 6
 number-of (Endless remainder) = Some 7
 number-of (NoRoom places) = Some 8
 number-of LoadTooLarge = Some 10
+number-of (Malformed offset) = Some 11
+number-of (Untrue remainder) = Some 12
 number-of (CommonDivisor divisor) = Some 13
 number-of (BasesDiffer base) = Some 14
 number-of (ListFull capacity) = Some 15
@@ -32,6 +34,8 @@ place-of (Unmakeable remainder) = Some remainder
 place-of (Endless remainder) = Some remainder
 place-of (NoRoom places) = Some places
 place-of LoadTooLarge = Some 1000000000
+place-of (Malformed offset) = Some offset
+place-of (Untrue remainder) = Some remainder
 place-of (CommonDivisor divisor) = Some divisor
 place-of (BasesDiffer base) = Some base
 place-of (ListFull capacity) = Some capacity

@@ -27,6 +27,10 @@ pub enum Refusal {
     NoRoom(usize),
     /// The load is above 1,000,000,000.
     LoadTooLarge,
+    /// The file is not well-formed: this is where it breaks.
+    Malformed(usize),
+    /// The file's table is not the true one of its row: this is the lowest remainder at which a rule fails.
+    Untrue(u32),
     /// Two sizes have a common divisor above 1: this is the greatest.
     CommonDivisor(u32),
     /// The bases of two sources differ: this is the second.
@@ -56,6 +60,8 @@ impl Refusal {
             Refusal::Endless(_) => Some(7),
             Refusal::NoRoom(_) => Some(8),
             Refusal::LoadTooLarge => Some(10),
+            Refusal::Malformed(_) => Some(11),
+            Refusal::Untrue(_) => Some(12),
             Refusal::CommonDivisor(_) => Some(13),
             Refusal::BasesDiffer(_) => Some(14),
             Refusal::ListFull(_) => Some(15),
@@ -79,6 +85,8 @@ impl Refusal {
             Refusal::Endless(remainder) => Some(u64::from(remainder)),
             Refusal::NoRoom(places) => Some(places as u64),
             Refusal::LoadTooLarge => Some(1_000_000_000),
+            Refusal::Malformed(offset) => Some(offset as u64),
+            Refusal::Untrue(remainder) => Some(u64::from(remainder)),
             Refusal::CommonDivisor(divisor) => Some(u64::from(divisor)),
             Refusal::BasesDiffer(base) => Some(u64::from(base)),
             Refusal::ListFull(capacity) => Some(capacity as u64),

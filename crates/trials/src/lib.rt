@@ -11,8 +11,12 @@ mod opening;
 #[cfg(test)]
 mod pairs_and_meets;
 #[cfg(test)]
+mod pasts;
+#[cfg(test)]
 mod reading;
 #[cfg(test)]
 mod sample;
+#[cfg(test)]
+mod table_files;
 #[cfg(test)]
 mod withdrawing;

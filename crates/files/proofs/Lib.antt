@@ -1,0 +1,12 @@
+pub mod Numbers
+pub mod Places
+pub mod Kept
+pub mod Firsts
+pub mod Formed
+pub mod Ruled
+pub mod Verdict
+pub mod Again
+pub mod Viewed
+pub mod Spelt
+pub mod Fronts
+pub mod Back

@@ -1,0 +1,11 @@
+pub mod Fields
+pub mod Layout
+pub mod Faults
+pub mod Checks
+pub mod Judged
+pub mod Written
+pub mod Rounds
+pub mod Making
+pub mod Ordered
+pub mod Entries
+pub mod Viewed
