@@ -21,17 +21,21 @@ pub(crate) fn read16(file: &[u8], at: usize) -> u16
     u16::from_be_bytes([read8(file, at), read8(file, at + 1)])
 }
 
-/// The number of four bytes at an offset.
+/// The number of four bytes at an offset. Where all four are there, one test is enough.
 pub(crate) fn read32(file: &[u8], at: usize) -> u32
     requires { ⌜ at < 2 ^ 32 ⌝ }
     ensures { λ r. ⌜ r ≡ at32 (now (file .entry)) at ⌝ }
 {
-    u32::from_be_bytes([
-        read8(file, at),
-        read8(file, at + 1),
-        read8(file, at + 2),
-        read8(file, at + 3),
-    ])
+    if at + 4 <= file.len() {
+        u32::from_be_bytes([file[at], file[at + 1], file[at + 2], file[at + 3]])
+    } else {
+        u32::from_be_bytes([
+            read8(file, at),
+            read8(file, at + 1),
+            read8(file, at + 2),
+            read8(file, at + 3),
+        ])
+    }
 }
 
 /// Writes a number as two bytes at an offset.
