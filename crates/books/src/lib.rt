@@ -1,4 +1,5 @@
 //! Books of unit sizes: a base, the other units of the row, and the true table of that row.
+#![tactic(auto)]
 
 mod book;
 mod rebuild;

@@ -1,4 +1,5 @@
 //! Prints the loads of two table sources, a pair of units and a source of this program's own, and those that they have in common.
+#![tactic(auto)]
 
 ghost use Rattle.std.specs.Prelude.{refl};
 ghost use Rattle.common_loads.specs.Trios.{entries};

@@ -1,4 +1,5 @@
 //! The day sheet program: reads a sheet on standard input and prints what each of its lines answers.
+#![tactic(auto)]
 
 use anyhow::anyhow;
 use sheets::{LONGEST, answer_sheet};

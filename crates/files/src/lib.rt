@@ -1,4 +1,5 @@
 //! The table file: a row of units and its table of least loads as bytes.
+#![tactic(auto)]
 
 mod checks;
 mod fields;

@@ -1,4 +1,5 @@
 //! The day sheet: from the bytes of a sheet to the text that it prints.
+#![tactic(auto)]
 
 mod answers;
 mod sheet;

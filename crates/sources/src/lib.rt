@@ -1,4 +1,5 @@
 //! The table sources that store no table: pairs of units, and what two sources have in common.
+#![tactic(auto)]
 
 mod divisors;
 mod meet;

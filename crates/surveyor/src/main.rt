@@ -1,4 +1,5 @@
 //! Gives a book a past, surveys it beside a pair of units, and prints what the survey finds.
+#![tactic(auto)]
 
 use anyhow::anyhow;
 use books::{Book, Findings, survey};

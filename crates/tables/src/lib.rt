@@ -1,4 +1,5 @@
 //! Tables of least loads: what a table source is, what is read from any of them, and why a call is refused.
+#![tactic(auto)]
 
 mod making;
 mod missing;

@@ -1,4 +1,5 @@
 //! The worked examples, as tests of the public calls of the other crates.
+#![tactic(auto)]
 
 #[cfg(test)]
 mod admitting;

@@ -6,6 +6,7 @@
 //!
 //! What waits is defined for every value of the type: the first `len` slots, or all of them where there are fewer. So
 //! no call asks anything of its caller.
+#![tactic(auto)]
 
 mod list;
 mod trailers;

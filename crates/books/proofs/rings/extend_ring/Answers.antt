@@ -29,7 +29,7 @@ walk-ring-requires c =
           h.0;
     }
 
-pub returns-in-default : goal.returns-in-default
-returns-in-default c =
+pub returns-in_default : goal.returns-in_default
+returns-in_default c =
     round_none (length c.args.entries.now) c.args.unit c.args.stride c.args.start (entry_of c.args.entries.now)
-    c.requires.few.0 c.requires.leaves c.in-default.ensures
+    c.requires.few.0 c.requires.leaves c.in_default.ensures

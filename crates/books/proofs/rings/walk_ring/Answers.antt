@@ -10,8 +10,8 @@ loop-step-init c =
     walk_none (length c.args.entries.now) c.args.unit c.args.stride c.args.low c.args.entries.now
     refl c.requires.leaves c.requires.lowest
 
-pub overflow-add-load : goal.overflow-add-load
-overflow-add-load c =
+pub overflow_add-load : goal.overflow_add-load
+overflow_add-load c =
     let most : (c.loop-step.-step + 1) * c.args.unit ≤ (length c.args.entries.now - 1) * c.args.unit =
     mul-le (c.loop-step.-step + 1) c.args.unit (length c.args.entries.now - 1) c.args.unit
     (omega (arith, ring_short (length c.args.entries.now) c.args.unit c.args.stride c.requires.few.0 c.requires.common))

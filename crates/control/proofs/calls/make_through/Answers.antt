@@ -3,8 +3,8 @@ use Rattle.std.proofs.lemmas.List.{length-take-le}
 use Rattle.control.proofs.Told.{made_from, make_done, make_refused, made_fits, refused_short, told_short}
 use Rattle.control.proofs.calls.make_through.Goals as goal
 
-pub slice-bounds-write-numbers-end : goal.slice-bounds-write-numbers-end
-slice-bounds-write-numbers-end c =
+pub slice_bounds-write-numbers-end : goal.slice_bounds-write-numbers-end
+slice_bounds-write-numbers-end c =
     let after = c.make-from.new.numbers in
     let made = (made_from c.args.file.now c.args.load (take c.min-room.result c.args.numbers.now) after c.in-Ok.units c.in-Ok.ensures).1 in
     omega (arith, made.all, made.room, c.make-from.auto.numbers, length-append after (drop c.min-room.result c.args.numbers.now))

@@ -7,5 +7,5 @@ use Rattle.control.proofs.packing.in_bytes.Goals as goal
 pub returns-in-NoRoom : goal.returns-in-NoRoom
 returns-in-NoRoom c = subst (λ (reason : Refusal). InBytes reason (NoRoom (4 * c.in-NoRoom.numbers))) (sym c.in-NoRoom.is) (room c.in-NoRoom.numbers)
 
-pub returns-in-default : goal.returns-in-default
-returns-in-default c = same c.args.reason c.in-default.not-NoRoom
+pub returns-in_default : goal.returns-in_default
+returns-in_default c = same c.args.reason c.in_default.not-NoRoom

@@ -18,7 +18,7 @@ returns-in-Some c =
 pub returns-in-Some-first-false : goal.returns-in-Some-first-false
 returns-in-Some-first-false c =
     let b = c.args.file.now in
-    let formed = c.in-default.ensures.0 in
+    let formed = c.in_default.ensures.0 in
     let first = c.in-Some-first-false.ensures in
     record {
       verdict = (untrue c.in-Some-first-false.remainder formed first, false_untrue b c.in-Some-first-false.remainder first);
@@ -29,9 +29,9 @@ returns-in-Some-first-false c =
 pub returns : goal.returns
 returns c =
     let b = c.args.file.now in
-    let formed = c.in-default.ensures.0 in
+    let formed = c.in_default.ensures.0 in
     record {
-      verdict = rules_true b formed c.in-default-first-false.ensures;
-      again = written_again b c.in-default.ensures.1 formed;
+      verdict = rules_true b formed c.in_default-first-false.ensures;
+      again = written_again b c.in_default.ensures.1 formed;
       fault = record { either = inl formed; one = one_fault b; none = no_fault b };
     }

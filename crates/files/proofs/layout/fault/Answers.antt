@@ -3,7 +3,7 @@ use Rattle.files.proofs.Kept.{head_long, head_some}
 use Rattle.files.proofs.layout.fault.Goals as goal
 
 pub bounds-file-5 : goal.bounds-file-5
-bounds-file-5 c = omega (arith, head_long _ c.in-default.ensures)
+bounds-file-5 c = omega (arith, head_long _ c.in_default.ensures)
 
-pub overflow-sub-proper : goal.overflow-sub-proper
-overflow-sub-proper c = omega (arith, head_some _ c.in-default.ensures)
+pub overflow_sub-proper : goal.overflow_sub-proper
+overflow_sub-proper c = omega (arith, head_some _ c.in_default.ensures)

@@ -12,8 +12,8 @@ returns-then-i-eq0 c =
 pub returns-else-i-eq0 : goal.returns-else-i-eq0
 returns-else-i-eq0 c = numbered c.loop-i.invariant (omega arith) c.loop-i-test.true (omega arith) (λ d. ⊎_elim (λ a. omega (arith, d.0)) (λ a. omega (arith, a, d.1)) c.then-b-lt48.either)
 
-pub returns-in-default : goal.returns-in-default
-returns-in-default c = numberless_grown c.loop-i.invariant (omega arith) c.loop-i-test.true (omega arith, omega arith) c.in-default.ensures
+pub returns-in_default : goal.returns-in_default
+returns-in_default c = numberless_grown c.loop-i.invariant (omega arith) c.loop-i-test.true (omega arith, omega arith) c.in_default.ensures
 
 pub loop-i-preserved : goal.loop-i-preserved
 loop-i-preserved c =

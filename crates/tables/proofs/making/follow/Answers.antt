@@ -29,16 +29,16 @@ loop-position-init g c =
     (c.fill.ensures.after (λ y e. e) ∙ ap (λ (n : ℕ). replicate n 0) c.requires.places)
     (subst (λ (m : ℕ). g.S.Source.entry s (c.args.entry % m) ≡ Some c.args.entry) (c.requires.divides ∙ sym c.requires.based) c.requires.present)
 
-pub offset-bounds-counts-position : goal.offset-bounds-counts-position
-offset-bounds-counts-position g c =
+pub offset_bounds-counts-position : goal.offset_bounds-counts-position
+offset_bounds-counts-position g c =
     omega (arith, (step_told c.loop-position.rest c.requires.ordered c.requires.table c.requires.divides c.requires.based c.in-Some.ensures).inside)
 
 pub bounds-counts-position : goal.bounds-counts-position
 bounds-counts-position g c =
     omega (arith, (step_told c.loop-position.rest c.requires.ordered c.requires.table c.requires.divides c.requires.based c.in-Some.ensures).inside)
 
-pub overflow-add-counts : goal.overflow-add-counts
-overflow-add-counts g c =
+pub overflow_add-counts : goal.overflow_add-counts
+overflow_add-counts g c =
     omega (arith, c.loop-position.invariant.bounded c.in-Some.position, (g.S.Source.lawful c.args.source.now).fits (c.args.entry % c.args.base) c.args.entry c.requires.present)
 
 pub bounds-counts-position-in-Some : goal.bounds-counts-position-in-Some
@@ -50,11 +50,11 @@ unwrap-requires g c =
     ap is_some (c.size.ensures ∙ slice_get-get_or (g.S.Showing.row c.args.source.now) c.in-Some.position 0
     (step_told c.loop-position.rest c.requires.ordered c.requires.table c.requires.divides c.requires.based c.in-Some.ensures).inside)
 
-pub overflow-sub-rest : goal.overflow-sub-rest
-overflow-sub-rest g c = omega (arith, size_here g c, (left_here g c).size)
+pub overflow_sub-rest : goal.overflow_sub-rest
+overflow_sub-rest g c = omega (arith, size_here g c, (left_here g c).size)
 
 pub loop-position-smaller : goal.loop-position-smaller
-loop-position-smaller g c = omega (arith, size_here g c, (left_here g c).ranges)
+loop-position-smaller g c = omega (arith, size_here g c, (left_here g c).fits)
 
 pub loop-position-preserved : goal.loop-position-preserved
 loop-position-preserved g c =
@@ -69,7 +69,7 @@ returns g c =
     let s = c.args.source.now in
     let e : Ended (g.S.Showing.row s) c.args.entry c.loop-position.counts =
     following_all (g.S.Showing.row s) (g.S.Source.entry s) c.requires.ordered c.requires.table c.args.entry c.loop-position.counts c.loop-position.rest c.loop-position.invariant
-    (none_told c.loop-position.rest c.requires.ordered c.requires.table c.requires.divides c.requires.based c.in-default.ensures) in
+    (none_told c.loop-position.rest c.requires.ordered c.requires.table c.requires.divides c.requires.based c.in_default.ensures) in
     record {
       followed = subst (λ (b : ℕ). Followed (g.S.Showing.row s) (c.args.entry % b) c.loop-position.counts) (c.requires.based ∙ sym c.requires.divides) e.followed;
       adds = e.adds;

@@ -10,11 +10,11 @@ returns-then-load-gt-GREATEST g c = (too_large (omega arith), refl)
 pub returns-then-numbers-units : goal.returns-then-numbers-units
 returns-then-numbers-units g c = (refuses_short (g.S.Showing.row c.args.source.now) c.args.load (length c.args.numbers.now) _ (omega arith) (omega arith) (omega arith), refl)
 
-pub returns-in-default : goal.returns-in-default
-returns-in-default g c =
+pub returns-in_default : goal.returns-in_default
+returns-in_default g c =
     let s = c.args.source.now in (
       refuses_absent (g.S.Showing.row s) (g.S.Source.entry s) c.units-units.ensures.ordered c.units-units.ensures.table c.args.load (length c.args.numbers.now) (c.args.load % c.from.result) (omega arith) (omega arith)
-          (ap (λ (b : ℕ). c.args.load % b) (c.from.ensures ∙ c.base-base.ensures ∙ sym c.units-units.ensures.based)) (sym c.least.ensures ∙ c.in-default.is),
+          (ap (λ (b : ℕ). c.args.load % b) (c.from.ensures ∙ c.base-base.ensures ∙ sym c.units-units.ensures.based)) (sym c.least.ensures ∙ c.in_default.is),
       refl,
     )
 

@@ -24,14 +24,14 @@ returns-then-size-lt1 c = record { turns = search rules; table = book_table c.ar
 pub returns-then-size-from : goal.returns-then-size-from
 returns-then-size-from c = record { turns = search rules; table = book_table c.args.self.now }
 
-pub returns-in-default : goal.returns-in-default
-returns-in-default c =
+pub returns-in_default : goal.returns-in_default
+returns-in_default c =
     let xs = vec_items c.args.self.now.others in
     record {
       turns =
           turns_refused _ _ _ _
           (admit_there c.args.self.now.base xs c.args.size (λ e. c.if-size-from.false (sym e ∙ sym c.from.ensures))
-          c.if-size-lt1.false c.if-size-gt-LARGEST-SIZE.false (has_place c.args.size xs _ _ c.as-slice.ensures.value c.in-default.ensures));
+          c.if-size-lt1.false c.if-size-gt-LARGEST-SIZE.false (has_place c.args.size xs _ _ c.as-slice.ensures.value c.in_default.ensures));
       table = book_table c.args.self.now;
     }
 

@@ -8,23 +8,23 @@ use Rattle.books.proofs.book.Book.open.Goals as goal
 pub invariant-of-result : goal.invariant-of-result
 invariant-of-result c =
     let base = c.args.base in
-    let others = vec_items c.in-ok-others.others in
+    let others = vec_items c.in_ok-others.others in
     let entries = vec_items c.begin.new.entries in
-    let made = c.in-ok-others.ensures in
+    let made = c.in_ok-others.ensures in
     let no : length others ≡ 0 = ap (λ (xs : List ℕ). length xs) made.items in
     let is = c.begin.ensures.items in
     let sized : Sized others = λ i h. absurd (omega (arith, no)) in
     let small : Small others = λ i h. absurd (omega (arith, no)) in
     let rising : Rising others = λ i j h l. absurd (omega (arith, no)) in
     let apart : Apart base others = λ i h e. absurd (omega (arith, no)) in
-    let few : vec_len c.in-ok-others.others ≤ 15 = omega (arith, made.len) in
+    let few : vec_len c.in_ok-others.others ≤ 15 = omega (arith, made.len) in
     let full : vec_len c.begin.new.entries ≡ base =
     omega (arith, c.begin.new.entries.ok.0, begun_full base (base - 1) entries is c.if-base-lt1.false refl) in
     let start = begun_start base (base - 1) entries is in
     let leaves = begun_leaves base (base - 1) entries is in
     let closed = begun_closed base (base - 1) entries is others made.items in
     let stepped = begun_stepped base (base - 1) entries is others in
-    (c.if-base-lt1.false, (c.if-base-gt-LARGEST-BASE.false, (sized, (small, (rising, (apart, (few, (made.capacity, (full, (c.begin.ensures.space, (c.in-ok-order.ensures.len, (start, (leaves, (closed, (stepped, tt)))))))))))))))
+    (c.if-base-lt1.false, (c.if-base-gt-LARGEST-BASE.false, (sized, (small, (rising, (apart, (few, (made.capacity, (full, (c.begin.ensures.space, (c.in_ok-order.ensures.len, (start, (leaves, (closed, (stepped, tt)))))))))))))))
 
 pub returns : goal.returns
 returns c =
@@ -33,7 +33,7 @@ returns c =
     let is = c.begin.ensures.items in
     opens_accepted _ base _ (open_fits base c.if-base-lt1.false c.if-base-gt-LARGEST-BASE.false)
     record {
-      row = ap (λ (xs : List ℕ). base ∷ xs) c.in-ok-others.ensures.items;
+      row = ap (λ (xs : List ℕ). base ∷ xs) c.in_ok-others.ensures.items;
       zero = begun_start base (base - 1) entries is;
       absent = begun_absent base (base - 1) entries is;
     }

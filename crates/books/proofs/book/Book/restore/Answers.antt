@@ -10,24 +10,24 @@ use Rattle.books.proofs.Filed.{file_few, listed_closed, listed_full, listed_leav
 use Rattle.books.proofs.Held.{book_table}
 use Rattle.books.proofs.book.Book.restore.Goals as goal
 
-pub returns-in-err-judge : goal.returns-in-err-judge
-returns-in-err-judge c =
-    let p = err_from_is_err_and c.from-residual.result c.from-residual.ensures.1 in
-    rw (p.1, p.2) (record { turns = (c.in-err-judge.ensures.verdict, refl); table = book_table c.args.self.now })
+pub returns-in_err-judge : goal.returns-in_err-judge
+returns-in_err-judge c =
+    let p = err_from_is_err_and c.from_residual.result c.from_residual.ensures.1 in
+    rw (p.1, p.2) (record { turns = (c.in_err-judge.ensures.verdict, refl); table = book_table c.args.self.now })
 
 pub refill-sizes-requires : goal.refill-sizes-requires
 refill-sizes-requires c =
-    let few = file_few c.args.file.now c.in-ok-judge.ensures.verdict in
+    let few = file_few c.args.file.now c.in_ok-judge.ensures.verdict in
     record { some = few.0; few = few.1; room = c.args.self.now.room }
 
 pub refill-entries-requires : goal.refill-entries-requires
-refill-entries-requires c = record { few = c.in-ok-judge.ensures.again.row.base; room = c.args.self.now.space }
+refill-entries-requires c = record { few = c.in_ok-judge.ensures.again.row.base; room = c.args.self.now.space }
 
 pub invariant-of-self : goal.invariant-of-self
 invariant-of-self c =
     let bytes = c.args.file.now in
-    let true = c.in-ok-judge.ensures.verdict in
-    let row = c.in-ok-judge.ensures.again.row in
+    let true = c.in_ok-judge.ensures.verdict in
+    let row = c.in_ok-judge.ensures.again.row in
     let is = c.base.ensures in
     let e : vec_items c.refill-sizes.new.sizes ≡ file_others bytes = c.refill-sizes.ensures.items in
     let units = vec_items c.refill-sizes.new.sizes in
@@ -52,8 +52,8 @@ invariant-of-self c =
 pub returns : goal.returns
 returns c =
     let bytes = c.args.file.now in
-    let true = c.in-ok-judge.ensures.verdict in
-    let again = c.in-ok-judge.ensures.again in
+    let true = c.in_ok-judge.ensures.verdict in
+    let again = c.in_ok-judge.ensures.again in
     let entries = vec_items c.refill-entries.new.entries in
     let are = c.refill-entries.ensures.items in
     let listed : c.base.result ∷ vec_items c.refill-sizes.new.sizes ≡ file_row bytes =

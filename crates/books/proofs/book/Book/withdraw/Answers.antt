@@ -42,8 +42,8 @@ returns-then-size-base c =
       table = book_table book;
     }
 
-pub returns-in-default : goal.returns-in-default
-returns-in-default c =
+pub returns-in_default : goal.returns-in_default
+returns-in_default c =
     let book = c.args.self.now in
     let xs = vec_items book.others in
     record {
@@ -51,10 +51,10 @@ returns-in-default c =
           turns_refused _ _ _ _
           (withdraw_absent book.base xs c.args.size (length c.args.strip.now) (omega (arith, c.from-m.ensures))
           (λ e. c.if-size-base.false (e ∙ sym c.from-base.ensures))
-          (has_no_place c.args.size xs _ _ c.as-slice.ensures.value book.rising c.in-default.ensures));
+          (has_no_place c.args.size xs _ _ c.as-slice.ensures.value book.rising c.in_default.ensures));
       strip =
-          left_cleared c.from-m.result book.base c.args.strip.now c.drop-marks-in-default.new.self.0 _ c.from-m.ensures
-          (λ q. let z : ◌≡◌ {A = ℕ} 0 1 = cc in omega arith) c.drop-marks-in-default.ensures;
+          left_cleared c.from-m.result book.base c.args.strip.now c.drop-marks-in_default.new.self.0 _ c.from-m.ensures
+          (λ q. let z : ◌≡◌ {A = ℕ} 0 1 = cc in omega arith) c.drop-marks-in_default.ensures;
       table = book_table book;
     }
 

@@ -73,6 +73,6 @@ loop-x-smaller c = less c.loop-x.points c.turn-n.new.points (length c.args.sizes
 
 pub returns : goal.returns
 returns c = record {
-  loads = leasts_from _ _ _ _ (closed_from _ _ _ _ _ _ _ c.loop-x.invariant.2 (ap length c.in-default.ensures.value.0));
+  loads = leasts_from _ _ _ _ (closed_from _ _ _ _ _ _ _ c.loop-x.invariant.2 (ap length c.in_default.ensures.value.0));
   beyond = c.loop-x.invariant.1 ∙ drop-set-lt c.args.m c.args.strip.now 0 1 c.requires.shape.1.1.0;
 }

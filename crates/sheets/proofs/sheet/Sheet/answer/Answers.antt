@@ -2,10 +2,10 @@ use Rattle.std.proofs.lemmas.Result.{err_from_is_err_and}
 use Rattle.sheets.specs.Lines.{unread, carried}
 use Rattle.sheets.proofs.sheet.Sheet.answer.Goals as goal
 
-pub returns-in-err-line : goal.returns-in-err-line
-returns-in-err-line c =
-    let p = err_from_is_err_and c.from-residual.result c.from-residual.ensures.1 in
-    rw (p.1, p.2) (λ _. unread c.in-err-line.field-0.0 c.in-err-line.ensures)
+pub returns-in_err-line : goal.returns-in_err-line
+returns-in_err-line c =
+    let p = err_from_is_err_and c.from_residual.result c.from_residual.ensures.1 in
+    rw (p.1, p.2) (λ _. unread c.in_err-line.field-0.0 c.in_err-line.ensures)
 
 pub returns : goal.returns
-returns c = λ kept. carried c.in-ok-line.line c.carry-out.result _ c.in-ok-line.ensures (c.carry-out.ensures kept)
+returns c = λ kept. carried c.in_ok-line.line c.carry-out.result _ c.in_ok-line.ensures (c.carry-out.ensures kept)
