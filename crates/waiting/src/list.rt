@@ -36,7 +36,7 @@ pub struct Waiting<'a, T> {
 /// The place of the least among the first `n`: the first such place, where several hold it.
 fn first_place<T: Queued>(slots: &[T], n: usize) -> usize
     requires { (0 < n) × (n ≤ length slots.now) }
-    ensures { IsFirstBest before slots.now n result }
+    ensures { IsFirstBest T.before slots.now n result }
 {
     let mut best = 0;
     for i in 1..n {
@@ -50,7 +50,7 @@ fn first_place<T: Queued>(slots: &[T], n: usize) -> usize
 /// The least among the first `n`. The last of them goes to its place, so that the others are the first `n - 1`.
 fn take_out<T: Queued>(slots: &mut [T], n: usize) -> T
     requires { (0 < n) × (n ≤ length slots.old) }
-    ensures { Least before (take n slots.old) (take (n - 1) slots.new) result }
+    ensures { Least T.before (take n slots.old) (take (n - 1) slots.new) result }
 {
     let best = first_place(slots, n);
     let x = slots[best];
@@ -102,7 +102,7 @@ impl<'a, T: Queued> Waiting<'a, T> {
 
     /// Takes the least out and leaves all the others, or takes nothing, exactly where nothing waits.
     pub fn take(&mut self) -> Option<T>
-        ensures value { Taken before (waits self.old) (waits self.new) result }
+        ensures value { Taken T.before (waits self.old) (waits self.new) result }
         ensures size { room self.new ≡ room self.old }
         ensures same { self.new.slots.ghost_name ≡ self.old.slots.ghost_name }
     {

@@ -12,4 +12,4 @@ returns c =
     rule_by_step _ _ _ _ _ c.requires (sym c.in-Some.ensures) _
     (subst (λ (k : ℕ). c.in-Some.load % k ≡ c.args.remainder) c.base.ensures c.if-load-base.false)
     (c.if-not-closed.ensures.0 refl) c.if-remainder-eq0.false
-    (c.is-some.ensures ∙ ap is_some c.step.ensures)
+    (c.is_some.ensures ∙ ap is_some c.step.ensures)

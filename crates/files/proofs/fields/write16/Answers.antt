@@ -5,4 +5,4 @@ use Rattle.files.proofs.fields.write16.Goals as goal
 
 pub returns : goal.returns
 returns c =
-    put_mid-paste c.args.at _ c.args.out.now c.copy-from-slice.new.self (be16 c.args.number) 2 (cc) (omega arith) refl
+    put_mid-paste c.args.at _ c.args.out.now c.copy_from_slice.new.self (be16 c.args.number) 2 (cc) (omega arith) refl

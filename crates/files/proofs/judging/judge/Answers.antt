@@ -15,13 +15,13 @@ returns-in-Some c =
       fault = record { either = inr (c.in-Some.offset, first); one = one_fault b; none = no_fault b };
     }
 
-pub returns-in-Some-first-false : goal.returns-in-Some-first-false
-returns-in-Some-first-false c =
+pub returns-in-Some-first_false : goal.returns-in-Some-first_false
+returns-in-Some-first_false c =
     let b = c.args.file.now in
     let formed = c.in_default.ensures.0 in
-    let first = c.in-Some-first-false.ensures in
+    let first = c.in-Some-first_false.ensures in
     record {
-      verdict = (untrue c.in-Some-first-false.remainder formed first, false_untrue b c.in-Some-first-false.remainder first);
+      verdict = (untrue c.in-Some-first_false.remainder formed first, false_untrue b c.in-Some-first_false.remainder first);
       again = tt;
       fault = record { either = inl formed; one = one_fault b; none = no_fault b };
     }
@@ -31,7 +31,7 @@ returns c =
     let b = c.args.file.now in
     let formed = c.in_default.ensures.0 in
     record {
-      verdict = rules_true b formed c.in_default-first-false.ensures;
+      verdict = rules_true b formed c.in_default-first_false.ensures;
       again = written_again b c.in_default.ensures.1 formed;
       fault = record { either = inl formed; one = one_fault b; none = no_fault b };
     }

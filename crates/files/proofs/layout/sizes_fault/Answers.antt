@@ -5,5 +5,5 @@ use Rattle.files.proofs.layout.sizes_fault.Goals as goal
 pub returns-then-file-place : goal.returns-then-file-place
 returns-then-file-place c = cut_size _ c.loop-place.place (search rules) c.loop-place.invariant (search rules)
 
-pub returns-then-not-size-fits : goal.returns-then-not-size-fits
-returns-then-not-size-fits c = broken_size _ c.loop-place.place (search rules) c.loop-place.invariant (search rules) (search rules)
+pub returns-then-not-size_fits : goal.returns-then-not-size_fits
+returns-then-not-size_fits c = broken_size _ c.loop-place.place (search rules) c.loop-place.invariant (search rules) (search rules)

@@ -11,12 +11,12 @@ returns g c =
     let entry : ℕ → Option ℕ = g.S.Source.entry s in
     let told = c.units-units.ensures in
     let size : ℕ = 8 + 2 * (c.units-units.result - 1) + 4 * c.base-base.result in
-    let saved : Saved row entry c.args.out.now size c.write-entries.new.out =
-    saved_whole row entry c.args.out.now c.write-head.new.out c.write-sizes.new.out c.write-entries.new.out
+    let saved : Saved row entry c.args.out.now size c.write_entries.new.out =
+    saved_whole row entry c.args.out.now c.write_head.new.out c.write_sizes.new.out c.write_entries.new.out
     c.units-units.result c.base-base.result told.value (c.base-base.ensures ∙ sym told.based) (omega arith)
-    c.write-head.ensures c.write-sizes.ensures c.write-entries.ensures in
+    c.write_head.ensures c.write_sizes.ensures c.write_entries.ensures in
     record {
       saves = saved;
-      back = reads_back row entry (g.S.Source.modulus s) c.args.out.now size c.write-entries.new.out
+      back = reads_back row entry (g.S.Source.modulus s) c.args.out.now size c.write_entries.new.out
           told.ordered told.based (g.S.Source.lawful s) told.table saved;
     }

@@ -5,56 +5,56 @@ use Rattle.lines.proofs.Languages.{parted}
 use Rattle.lines.proofs.Letters.{unread_empty, unread_other, unread_open, unread_admit, unread_withdraw, unread_make, unread_largest, unread_gaps, spells}
 use Rattle.lines.proofs.line.read.Goals as goal
 
-pub returns-then-is-empty : goal.returns-then-is-empty
-returns-then-is-empty c = unread_empty c.args.bytes.now c.if-is-empty.ensures
+pub returns-then-is_empty : goal.returns-then-is_empty
+returns-then-is_empty c = unread_empty c.args.bytes.now c.if-is_empty.ensures
 
-pub returns-in_err-last-number : goal.returns-in_err-last-number
-returns-in_err-last-number c =
+pub returns-in_err-last_number-in-B : goal.returns-in_err-last_number-in-B
+returns-in_err-last_number-in-B c =
     let p = err_from_is_err_and c.from_residual.result c.from_residual.ensures.1 in
-    rw (p.1, p.2) (unread_open (parted 66 c.if-is-empty.ensures (sym c.from.ensures ∙ c.in-B.is)) c.in_err-last-number.ensures)
+    rw (p.1, p.2) (unread_open (parted 66 c.if-is_empty.ensures (sym c.from.ensures ∙ c.in-B.is)) c.in_err-last_number-in-B.ensures)
 
-pub returns-in_ok-last-number : goal.returns-in_ok-last-number
-returns-in_ok-last-number c = spells (Open c.in_ok-last-number.field-0) (omega arith) (parted 66 c.if-is-empty.ensures (sym c.from.ensures ∙ c.in-B.is)) c.in_ok-last-number.ensures
+pub returns-in_ok-last_number-in-B : goal.returns-in_ok-last_number-in-B
+returns-in_ok-last_number-in-B c = spells (Open c.in_ok-last_number-in-B.field-0) (omega arith) (parted 66 c.if-is_empty.ensures (sym c.from.ensures ∙ c.in-B.is)) c.in_ok-last_number-in-B.ensures
 
-pub returns-in_err-last-number-2 : goal.returns-in_err-last-number-2
-returns-in_err-last-number-2 c =
-    let p = err_from_is_err_and c.from_residual-in_err-last-number-2.result c.from_residual-in_err-last-number-2.ensures.1 in
-    rw (p.1, p.2) (unread_admit (parted 65 c.if-is-empty.ensures (sym c.from.ensures ∙ c.in-A.is)) c.in_err-last-number-2.ensures)
+pub returns-in_err-last_number-in-A : goal.returns-in_err-last_number-in-A
+returns-in_err-last_number-in-A c =
+    let p = err_from_is_err_and c.from_residual-in_err-last_number-in-A.result c.from_residual-in_err-last_number-in-A.ensures.1 in
+    rw (p.1, p.2) (unread_admit (parted 65 c.if-is_empty.ensures (sym c.from.ensures ∙ c.in-A.is)) c.in_err-last_number-in-A.ensures)
 
-pub returns-in_ok-last-number-2 : goal.returns-in_ok-last-number-2
-returns-in_ok-last-number-2 c = spells (Admit c.in_ok-last-number-2.field-0) (omega arith) (parted 65 c.if-is-empty.ensures (sym c.from.ensures ∙ c.in-A.is)) c.in_ok-last-number-2.ensures
+pub returns-in_ok-last_number-in-A : goal.returns-in_ok-last_number-in-A
+returns-in_ok-last_number-in-A c = spells (Admit c.in_ok-last_number-in-A.field-0) (omega arith) (parted 65 c.if-is_empty.ensures (sym c.from.ensures ∙ c.in-A.is)) c.in_ok-last_number-in-A.ensures
 
-pub returns-in_err-last-number-3 : goal.returns-in_err-last-number-3
-returns-in_err-last-number-3 c =
-    let p = err_from_is_err_and c.from_residual-in_err-last-number-3.result c.from_residual-in_err-last-number-3.ensures.1 in
-    rw (p.1, p.2) (unread_withdraw (parted 87 c.if-is-empty.ensures (sym c.from.ensures ∙ c.in-W.is)) c.in_err-last-number-3.ensures)
+pub returns-in_err-last_number-in-W : goal.returns-in_err-last_number-in-W
+returns-in_err-last_number-in-W c =
+    let p = err_from_is_err_and c.from_residual-in_err-last_number-in-W.result c.from_residual-in_err-last_number-in-W.ensures.1 in
+    rw (p.1, p.2) (unread_withdraw (parted 87 c.if-is_empty.ensures (sym c.from.ensures ∙ c.in-W.is)) c.in_err-last_number-in-W.ensures)
 
-pub returns-in_ok-last-number-3 : goal.returns-in_ok-last-number-3
-returns-in_ok-last-number-3 c = spells (Withdraw c.in_ok-last-number-3.field-0) (omega arith) (parted 87 c.if-is-empty.ensures (sym c.from.ensures ∙ c.in-W.is)) c.in_ok-last-number-3.ensures
+pub returns-in_ok-last_number-in-W : goal.returns-in_ok-last_number-in-W
+returns-in_ok-last_number-in-W c = spells (Withdraw c.in_ok-last_number-in-W.field-0) (omega arith) (parted 87 c.if-is_empty.ensures (sym c.from.ensures ∙ c.in-W.is)) c.in_ok-last_number-in-W.ensures
 
-pub returns-in_err-last-number-4 : goal.returns-in_err-last-number-4
-returns-in_err-last-number-4 c =
-    let p = err_from_is_err_and c.from_residual-in_err-last-number-4.result c.from_residual-in_err-last-number-4.ensures.1 in
-    rw (p.1, p.2) (unread_make (parted 77 c.if-is-empty.ensures (sym c.from.ensures ∙ c.in-M.is)) c.in_err-last-number-4.ensures)
+pub returns-in_err-last_number-in-M : goal.returns-in_err-last_number-in-M
+returns-in_err-last_number-in-M c =
+    let p = err_from_is_err_and c.from_residual-in_err-last_number-in-M.result c.from_residual-in_err-last_number-in-M.ensures.1 in
+    rw (p.1, p.2) (unread_make (parted 77 c.if-is_empty.ensures (sym c.from.ensures ∙ c.in-M.is)) c.in_err-last_number-in-M.ensures)
 
-pub returns-in_ok-last-number-4 : goal.returns-in_ok-last-number-4
-returns-in_ok-last-number-4 c = spells (Make c.in_ok-last-number-4.field-0) (omega arith) (parted 77 c.if-is-empty.ensures (sym c.from.ensures ∙ c.in-M.is)) c.in_ok-last-number-4.ensures
+pub returns-in_ok-last_number-in-M : goal.returns-in_ok-last_number-in-M
+returns-in_ok-last_number-in-M c = spells (Make c.in_ok-last_number-in-M.field-0) (omega arith) (parted 77 c.if-is_empty.ensures (sym c.from.ensures ∙ c.in-M.is)) c.in_ok-last_number-in-M.ensures
 
-pub returns-in_err-end : goal.returns-in_err-end
-returns-in_err-end c =
-    let p = err_from_is_err_and c.from_residual-in_err-end.result c.from_residual-in_err-end.ensures.1 in
-    rw (p.1, p.2) (unread_largest (parted 76 c.if-is-empty.ensures (sym c.from.ensures ∙ c.in-L.is)) c.in_err-end.ensures)
+pub returns-in_err-end-in-L : goal.returns-in_err-end-in-L
+returns-in_err-end-in-L c =
+    let p = err_from_is_err_and c.from_residual-in_err-end-in-L.result c.from_residual-in_err-end-in-L.ensures.1 in
+    rw (p.1, p.2) (unread_largest (parted 76 c.if-is_empty.ensures (sym c.from.ensures ∙ c.in-L.is)) c.in_err-end-in-L.ensures)
 
-pub returns-in_ok-end : goal.returns-in_ok-end
-returns-in_ok-end c = spells Largest tt (parted 76 c.if-is-empty.ensures (sym c.from.ensures ∙ c.in-L.is)) (sym c.in_ok-end.ensures)
+pub returns-in_ok-end-in-L : goal.returns-in_ok-end-in-L
+returns-in_ok-end-in-L c = spells Largest tt (parted 76 c.if-is_empty.ensures (sym c.from.ensures ∙ c.in-L.is)) (sym c.in_ok-end-in-L.ensures)
 
-pub returns-in_err-end-2 : goal.returns-in_err-end-2
-returns-in_err-end-2 c =
-    let p = err_from_is_err_and c.from_residual-in_err-end-2.result c.from_residual-in_err-end-2.ensures.1 in
-    rw (p.1, p.2) (unread_gaps (parted 71 c.if-is-empty.ensures (sym c.from.ensures ∙ c.in-G.is)) c.in_err-end-2.ensures)
+pub returns-in_err-end-in-G : goal.returns-in_err-end-in-G
+returns-in_err-end-in-G c =
+    let p = err_from_is_err_and c.from_residual-in_err-end-in-G.result c.from_residual-in_err-end-in-G.ensures.1 in
+    rw (p.1, p.2) (unread_gaps (parted 71 c.if-is_empty.ensures (sym c.from.ensures ∙ c.in-G.is)) c.in_err-end-in-G.ensures)
 
-pub returns-in_ok-end-2 : goal.returns-in_ok-end-2
-returns-in_ok-end-2 c = spells Gaps tt (parted 71 c.if-is-empty.ensures (sym c.from.ensures ∙ c.in-G.is)) (sym c.in_ok-end-2.ensures)
+pub returns-in_ok-end-in-G : goal.returns-in_ok-end-in-G
+returns-in_ok-end-in-G c = spells Gaps tt (parted 71 c.if-is_empty.ensures (sym c.from.ensures ∙ c.in-G.is)) (sym c.in_ok-end-in-G.ensures)
 
 pub returns-in_default : goal.returns-in_default
 returns-in_default c = unread_other c.args.bytes.now (λ e. omega arith) (λ e. omega arith) (λ e. omega arith) (λ e. omega arith) (λ e. omega arith) (λ e. omega arith)

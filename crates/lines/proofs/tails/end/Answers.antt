@@ -5,5 +5,5 @@ use Rattle.lines.proofs.tails.end.Goals as goal
 
 pub returns : goal.returns
 returns c =
-    let some = eqb-false (length c.args.bytes.now) 0 (sym c.if-is-empty.ensures) in
+    let some = eqb-false (length c.args.bytes.now) 0 (sym c.if-is_empty.ensures) in
     ends c.args.bytes.now (omega arith) c.if-bytes-ne10.false (omega arith)

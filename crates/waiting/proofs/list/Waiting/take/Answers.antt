@@ -13,7 +13,7 @@ returns g c =
     let front : take c.len-n.result c.args.self.now.slots.now ≡ waits c.args.self.now
     = ap (λ n. take n c.args.self.now.slots.now) c.len-n.ensures.value ∙ sym (front_same c.args.self.now.len c.args.self.now.slots.now) in
     record {
-      value = least_from front c.take-out.ensures;
+      value = least_from front c.take_out.ensures;
       size = search rules;
       same = search rules;
     }
