@@ -5,8 +5,8 @@ use Rattle.books.proofs.Mods.{class_at}
 use Rattle.books.proofs.Rounds.{round_none}
 use Rattle.books.proofs.rings.extend_ring.Goals as goal
 
-pub lowest-in-ring-requires : goal.lowest-in-ring-requires
-lowest-in-ring-requires c =
+pub lowest_in_ring-requires : goal.lowest_in_ring-requires
+lowest_in_ring-requires c =
     record {
       some = c.requires.start;
       few = (le_of_dvd c.requires.few.0 (dvd_of_mod-eq-zero c.args.stride c.requires.common.base), c.requires.few.1);
@@ -14,8 +14,8 @@ lowest-in-ring-requires c =
       whole = c.requires.common.base;
     }
 
-pub walk-ring-requires : goal.walk-ring-requires
-walk-ring-requires c =
+pub walk_ring-requires : goal.walk_ring-requires
+walk_ring-requires c =
     let h = c.in-Some.ensures in
     let m = length c.args.entries.now in
     record {

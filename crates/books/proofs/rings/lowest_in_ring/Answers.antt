@@ -17,7 +17,7 @@ loop-t-preserved c =
     LowestBelow (length c.args.entries.now) c.args.stride c.args.start (c.loop-t.t + c.args.stride)
     (entry_of c.args.entries.now) low in (
       add-mod_right c.loop-t.t c.args.stride ∙ c.loop-t.invariant.0,
-      subst P (sym c.lower-entry-low.ensures)
+      subst P (sym c.lower_entry-low.ensures)
           (lowest_more (length c.args.entries.now) c.args.stride c.args.start c.loop-t.t
           (entry_of c.args.entries.now) c.requires.leaves c.requires.whole c.loop-t.invariant.0 c.loop-t.low _ refl
           c.loop-t.invariant.1),

@@ -5,4 +5,4 @@ use Rattle.books.proofs.rings.walk_ring.Given as goal
 
 abbrev pub invariant-loop-step : goal.invariant-loop-step
 invariant-loop-step l =
-    Walk (length l.initial.entries) l.unit l.stride l.low l.-step (entry_of l.initial.entries) l.entries l.load
+    Walk (length l.initial.entries) l.unit l.stride l.low l._step (entry_of l.initial.entries) l.entries l.load

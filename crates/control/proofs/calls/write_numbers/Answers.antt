@@ -8,7 +8,7 @@ pub loop-at-preserved : goal.loop-at-preserved
 loop-at-preserved c =
     front_more be32 4 c.args.numbers.now c.args.out.now c.loop-at.out c.loop-at.at _ (λ x. refl)
     (omega arith) c.loop-at.invariant
-    (put_mid-paste (4 * c.loop-at.at) _ c.loop-at.out c.copy-from-slice.new.self (be32 (get_or c.args.numbers.now c.loop-at.at 0)) 4 (cc) (omega arith) refl)
+    (put_mid-paste (4 * c.loop-at.at) _ c.loop-at.out c.copy_from_slice.new.self (be32 (get_or c.args.numbers.now c.loop-at.at 0)) 4 (cc) (omega arith) refl)
 
 pub returns : goal.returns
 returns c = front_all be32 4 c.args.numbers.now c.args.out.now c.loop-at.out c.loop-at.at (omega arith) c.loop-at.invariant

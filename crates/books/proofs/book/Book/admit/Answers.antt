@@ -31,19 +31,19 @@ returns-in_default c =
       turns =
           turns_refused _ _ _ _
           (admit_there c.args.self.now.base xs c.args.size (λ e. c.if-size-from.false (sym e ∙ sym c.from.ensures))
-          c.if-size-lt1.false c.if-size-gt-LARGEST-SIZE.false (has_place c.args.size xs _ _ c.as-slice.ensures.value c.in_default.ensures));
+          c.if-size-lt1.false c.if-size-gt-LARGEST_SIZE.false (has_place c.args.size xs _ _ c.as_slice.ensures.value c.in_default.ensures));
       table = book_table c.args.self.now;
     }
 
-pub returns-then-len-ge-MOST-OTHERS : goal.returns-then-len-ge-MOST-OTHERS
-returns-then-len-ge-MOST-OTHERS c =
+pub returns-then-len-ge-MOST_OTHERS : goal.returns-then-len-ge-MOST_OTHERS
+returns-then-len-ge-MOST_OTHERS c =
     let xs = vec_items c.args.self.now.others in
     record {
       turns =
           turns_refused _ _ _ _
           (admit_full c.args.self.now.base xs c.args.size (λ e. c.if-size-from.false (sym e ∙ sym c.from.ensures))
-          c.if-size-lt1.false c.if-size-gt-LARGEST-SIZE.false
-          (has_no_place c.args.size xs _ _ c.as-slice.ensures.value c.args.self.now.rising c.in-Err.ensures)
+          c.if-size-lt1.false c.if-size-gt-LARGEST_SIZE.false
+          (has_no_place c.args.size xs _ _ c.as_slice.ensures.value c.args.self.now.rising c.in-Err.ensures)
           (omega (arith, c.args.self.now.others.ok.0)));
       table = book_table c.args.self.now;
     }
@@ -55,7 +55,7 @@ is_put c =
     c.insert.ensures.items ∙ cond-true _ _ _ ok
 
 place : (c : goal.After-insert) → Located (vec_items c.args.self.now.others) c.args.size (Err c.in-Err.at)
-place c = subst (λ (zs : List ℕ). Located zs c.args.size (Err c.in-Err.at)) c.as-slice.ensures.value c.in-Err.ensures
+place c = subst (λ (zs : List ℕ). Located zs c.args.size (Err c.in-Err.at)) c.as_slice.ensures.value c.in-Err.ensures
 
 pub extend-requires : goal.extend-requires
 extend-requires c =
@@ -64,7 +64,7 @@ extend-requires c =
     record {
       few = omega (arith, book.low, book.high, book.full);
       leaves = subst (λ (z : ℕ). Leaves z (entry_of (vec_items book.entries))) e book.leaves;
-      room = subst (λ (z : ℕ). Room z c.args.size (entry_of (vec_items book.entries))) e (book_room book c.args.size c.if-size-gt-LARGEST-SIZE.false);
+      room = subst (λ (z : ℕ). Room z c.args.size (entry_of (vec_items book.entries))) e (book_room book c.args.size c.if-size-gt-LARGEST_SIZE.false);
     }
 
 -- the new entries keep the rules of the row with the new unit
@@ -78,8 +78,8 @@ kept c =
     book.leaves (book_rules book)
     (subst (Joined c.args.size xs) (sym (is_put c)) (inserted_joined xs c.in-Err.at c.args.size l.0))
 
-pub invariant-of-self : goal.invariant-of-self
-invariant-of-self c =
+pub invariant_of-self : goal.invariant_of-self
+invariant_of-self c =
     let book = c.args.self.now in
     let xs = vec_items book.others in
     let at = c.in-Err.at in
@@ -89,7 +89,7 @@ invariant-of-self c =
     let units = vec_items c.insert.new.self in
     let nu = vec_items c.extend.new.entries in
     let sized : Sized units = subst Sized (sym e) (in_each xs at g l.0 (λ (x : ℕ). 1 ≤ x) book.sized c.if-size-lt1.false) in
-    let small : Small units = subst Small (sym e) (in_each xs at g l.0 (λ (x : ℕ). x ≤ 65535) book.small c.if-size-gt-LARGEST-SIZE.false) in
+    let small : Small units = subst Small (sym e) (in_each xs at g l.0 (λ (x : ℕ). x ≤ 65535) book.small c.if-size-gt-LARGEST_SIZE.false) in
     let rising : Rising units = subst Rising (sym e) (in_rising xs at g l.0 book.rising l.1 l.2) in
     let apart : Apart book.base units =
     subst (Apart book.base) (sym e) (in_each xs at g l.0 (λ (x : ℕ). x ≡ book.base → ⊥) book.apart (λ q. c.if-size-from.false (q ∙ sym c.from.ensures))) in
@@ -103,19 +103,35 @@ invariant-of-self c =
     let leaves = leaves_from book.base units (entry_of nu) book.low past (kept c) in
     let closed = closed_from book.base units (entry_of nu) book.low past (kept c) in
     let stepped = stepped_from book.base units (entry_of nu) book.low past (kept c) in
-    (book.low, (book.high, (sized, (small, (rising, (apart, (few, (room, (full, (space, (book.places, (start, (leaves, (closed, (stepped, tt)))))))))))))))
+    record {
+      low = book.low;
+      high = book.high;
+      sized = sized;
+      small = small;
+      rising = rising;
+      apart = apart;
+      few = few;
+      room = room;
+      full = full;
+      space = space;
+      places = book.places;
+      start = start;
+      leaves = leaves;
+      closed = closed;
+      stepped = stepped;
+    }
 
 pub returns : goal.returns
 returns c =
     let xs = vec_items c.args.self.now.others in
-    let l = subst (λ (zs : List ℕ). Located zs c.args.size (Err c.in-Err.at)) c.as-slice.ensures.value c.in-Err.ensures in
+    let l = subst (λ (zs : List ℕ). Located zs c.args.size (Err c.in-Err.at)) c.as_slice.ensures.value c.in-Err.ensures in
     let ok : is_ok c.insert.result ≡ true = c.insert.ensures.succeeds (omega (arith, c.args.self.now.room)) in
     record {
       turns =
           turns_accepted _ _ _ _
           (admit_fits c.args.self.now.base xs c.args.size (λ e. c.if-size-from.false (sym e ∙ sym c.from.ensures))
-          c.if-size-lt1.false c.if-size-gt-LARGEST-SIZE.false
-          (has_no_place c.args.size xs _ _ c.as-slice.ensures.value c.args.self.now.rising c.in-Err.ensures)
+          c.if-size-lt1.false c.if-size-gt-LARGEST_SIZE.false
+          (has_no_place c.args.size xs _ _ c.as_slice.ensures.value c.args.self.now.rising c.in-Err.ensures)
           (omega (arith, c.args.self.now.others.ok.0)))
           (ap (λ (l : List ℕ). c.args.self.now.base ∷ l)
           (c.insert.ensures.items ∙ cond-true _ _ _ ok ∙ put_is c.args.size xs c.in-Err.at l.0 l.1 l.2));

@@ -13,6 +13,6 @@ returns-then-size-from c =
 pub returns-else-size-from : goal.returns-else-size-from
 returns-else-size-from c =
     let book = c.args.self.now in
-    c.is-ok.ensures.value
-    ∙ found c.args.size (vec_items book.others) _ c.find.result c.as-slice.ensures.value book.rising c.find.ensures
+    c.is_ok.ensures.value
+    ∙ found c.args.size (vec_items book.others) _ c.find.result c.as_slice.ensures.value book.rising c.find.ensures
     ∙ sym (ap (λ (b : Bool). b || has c.args.size (vec_items book.others)) (ne_eqb book.base c.args.size (λ e. c.if-size-from.false (sym (c.from.ensures ∙ e)))))

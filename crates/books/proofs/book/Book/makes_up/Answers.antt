@@ -8,6 +8,6 @@ pub returns-else-multiple : goal.returns-else-multiple
 returns-else-multiple c =
     let book = c.args.self.now in
     let size = c.args.size in
-    spare_after book.base size (vec_items book.others) c.multiple-of-some.result
+    spare_after book.base size (vec_items book.others) c.multiple_of_some.result
     (λ m. not_from_Decides c.multiple.result c.multiple.ensures c.if-multiple.false (subst (λ (z : ℕ). Multiple z size) (sym c.from.ensures) m))
-    (subst (λ (xs : List ℕ). Decides c.multiple-of-some.result (Spare xs size)) c.as-slice.ensures.value c.multiple-of-some.ensures)
+    (subst (λ (xs : List ℕ). Decides c.multiple_of_some.result (Spare xs size)) c.as_slice.ensures.value c.multiple_of_some.ensures)

@@ -5,8 +5,8 @@ use Rattle.books.proofs.Refused.{open_fits}
 use Rattle.books.proofs.Turned.{opens_accepted}
 use Rattle.books.proofs.book.Book.open.Goals as goal
 
-pub invariant-of-result : goal.invariant-of-result
-invariant-of-result c =
+pub invariant_of-result : goal.invariant_of-result
+invariant_of-result c =
     let base = c.args.base in
     let others = vec_items c.in_ok-others.others in
     let entries = vec_items c.begin.new.entries in
@@ -24,14 +24,30 @@ invariant-of-result c =
     let leaves = begun_leaves base (base - 1) entries is in
     let closed = begun_closed base (base - 1) entries is others made.items in
     let stepped = begun_stepped base (base - 1) entries is others in
-    (c.if-base-lt1.false, (c.if-base-gt-LARGEST-BASE.false, (sized, (small, (rising, (apart, (few, (made.capacity, (full, (c.begin.ensures.space, (c.in_ok-order.ensures.len, (start, (leaves, (closed, (stepped, tt)))))))))))))))
+    record {
+      low = c.if-base-lt1.false;
+      high = c.if-base-gt-LARGEST_BASE.false;
+      sized = sized;
+      small = small;
+      rising = rising;
+      apart = apart;
+      few = few;
+      room = made.capacity;
+      full = full;
+      space = c.begin.ensures.space;
+      places = c.in_ok-order.ensures.len;
+      start = start;
+      leaves = leaves;
+      closed = closed;
+      stepped = stepped;
+    }
 
 pub returns : goal.returns
 returns c =
     let base = c.args.base in
     let entries = vec_items c.begin.new.entries in
     let is = c.begin.ensures.items in
-    opens_accepted _ base _ (open_fits base c.if-base-lt1.false c.if-base-gt-LARGEST-BASE.false)
+    opens_accepted _ base _ (open_fits base c.if-base-lt1.false c.if-base-gt-LARGEST_BASE.false)
     record {
       row = ap (λ (xs : List ℕ). base ∷ xs) c.in_ok-others.ensures.items;
       zero = begun_start base (base - 1) entries is;

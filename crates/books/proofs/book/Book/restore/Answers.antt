@@ -15,24 +15,24 @@ returns-in_err-judge c =
     let p = err_from_is_err_and c.from_residual.result c.from_residual.ensures.1 in
     rw (p.1, p.2) (record { turns = (c.in_err-judge.ensures.verdict, refl); table = book_table c.args.self.now })
 
-pub refill-sizes-requires : goal.refill-sizes-requires
-refill-sizes-requires c =
+pub refill_sizes-requires : goal.refill_sizes-requires
+refill_sizes-requires c =
     let few = file_few c.args.file.now c.in_ok-judge.ensures.verdict in
     record { some = few.0; few = few.1; room = c.args.self.now.room }
 
-pub refill-entries-requires : goal.refill-entries-requires
-refill-entries-requires c = record { few = c.in_ok-judge.ensures.again.row.base; room = c.args.self.now.space }
+pub refill_entries-requires : goal.refill_entries-requires
+refill_entries-requires c = record { few = c.in_ok-judge.ensures.again.row.base; room = c.args.self.now.space }
 
-pub invariant-of-self : goal.invariant-of-self
-invariant-of-self c =
+pub invariant_of-self : goal.invariant_of-self
+invariant_of-self c =
     let bytes = c.args.file.now in
     let true = c.in_ok-judge.ensures.verdict in
     let row = c.in_ok-judge.ensures.again.row in
     let is = c.base.ensures in
-    let e : vec_items c.refill-sizes.new.sizes ≡ file_others bytes = c.refill-sizes.ensures.items in
-    let units = vec_items c.refill-sizes.new.sizes in
-    let entries = vec_items c.refill-entries.new.entries in
-    let are = c.refill-entries.ensures.items in
+    let e : vec_items c.refill_sizes.new.sizes ≡ file_others bytes = c.refill_sizes.ensures.items in
+    let units = vec_items c.refill_sizes.new.sizes in
+    let entries = vec_items c.refill_entries.new.entries in
+    let are = c.refill_entries.ensures.items in
     let low : 1 ≤ c.base.result = omega (arith, is, (row.sizes 0 (omega arith)).0) in
     let high : c.base.result ≤ 4096 = omega (arith, is, row.base) in
     let sized : Sized units = subst Sized (sym e) (λ i h. (row.sizes (suc i) (omega arith)).0) in
@@ -40,24 +40,40 @@ invariant-of-self c =
     let rising : Rising units = subst Rising (sym e) (λ i j less h. row.rises (suc i) (suc j) (omega arith) (omega arith) (omega arith)) in
     let apart : Apart c.base.result units =
     subst (Apart c.base.result) (sym e) (λ i h q. row.apart (suc i) (omega arith) (omega arith) (q ∙ is)) in
-    let few : vec_len c.refill-sizes.new.sizes ≤ 15 = omega (arith, c.refill-sizes.new.sizes.ok.0, ap (λ (zs : List ℕ). length zs) e, row.few) in
-    let full : vec_len c.refill-entries.new.entries ≡ c.base.result = omega (arith, c.refill-entries.new.entries.ok.0, listed_full bytes true row entries are, is) in
+    let few : vec_len c.refill_sizes.new.sizes ≤ 15 = omega (arith, c.refill_sizes.new.sizes.ok.0, ap (λ (zs : List ℕ). length zs) e, row.few) in
+    let full : vec_len c.refill_entries.new.entries ≡ c.base.result = omega (arith, c.refill_entries.new.entries.ok.0, listed_full bytes true row entries are, is) in
     let leaves : Leaves c.base.result (entry_of entries) = subst (λ (m : ℕ). Leaves m (entry_of entries)) (sym is) (listed_leaves bytes true row entries are) in
     let closed : AllClosed c.base.result units (entry_of entries) =
     subst (λ (m : ℕ). AllClosed m units (entry_of entries)) (sym is) (subst (λ (zs : List ℕ). AllClosed (file_base bytes) zs (entry_of entries)) (sym e) (listed_closed bytes true row entries are)) in
     let stepped : AllStepped c.base.result units (entry_of entries) =
     subst (λ (m : ℕ). AllStepped m units (entry_of entries)) (sym is) (subst (λ (zs : List ℕ). AllStepped (file_base bytes) zs (entry_of entries)) (sym e) (listed_stepped bytes true row entries are)) in
-    (low, (high, (sized, (small, (rising, (apart, (few, (c.refill-sizes.ensures.room, (full, (c.refill-entries.ensures.room, (c.args.self.now.places, (listed_start bytes true row entries are, (leaves, (closed, (stepped, tt)))))))))))))))
+    record {
+      low = low;
+      high = high;
+      sized = sized;
+      small = small;
+      rising = rising;
+      apart = apart;
+      few = few;
+      room = c.refill_sizes.ensures.room;
+      full = full;
+      space = c.refill_entries.ensures.room;
+      places = c.args.self.now.places;
+      start = listed_start bytes true row entries are;
+      leaves = leaves;
+      closed = closed;
+      stepped = stepped;
+    }
 
 pub returns : goal.returns
 returns c =
     let bytes = c.args.file.now in
     let true = c.in_ok-judge.ensures.verdict in
     let again = c.in_ok-judge.ensures.again in
-    let entries = vec_items c.refill-entries.new.entries in
-    let are = c.refill-entries.ensures.items in
-    let listed : c.base.result ∷ vec_items c.refill-sizes.new.sizes ≡ file_row bytes =
-    ap (λ (m : ℕ). m ∷ vec_items c.refill-sizes.new.sizes) c.base.ensures ∙ ap (λ (zs : List ℕ). file_base bytes ∷ zs) c.refill-sizes.ensures.items in
+    let entries = vec_items c.refill_entries.new.entries in
+    let are = c.refill_entries.ensures.items in
+    let listed : c.base.result ∷ vec_items c.refill_sizes.new.sizes ≡ file_row bytes =
+    ap (λ (m : ℕ). m ∷ vec_items c.refill_sizes.new.sizes) c.base.ensures ∙ ap (λ (zs : List ℕ). file_base bytes ∷ zs) c.refill_sizes.ensures.items in
     record {
       turns = record {
         accepted = true;

@@ -51,19 +51,19 @@ returns-in_default c =
           turns_refused _ _ _ _
           (withdraw_absent book.base xs c.args.size (length c.args.strip.now) (omega (arith, c.from-m.ensures))
           (λ e. c.if-size-base.false (e ∙ sym c.from-base.ensures))
-          (has_no_place c.args.size xs _ _ c.as-slice.ensures.value book.rising c.in_default.ensures));
+          (has_no_place c.args.size xs _ _ c.as_slice.ensures.value book.rising c.in_default.ensures));
       strip =
           left_cleared c.from-m.result book.base c.args.strip.now c.drop-marks-in_default.new.self.0 _ c.from-m.ensures
           (λ q. let z : ◌≡◌ {A = ℕ} 0 1 = cc in omega arith) c.drop-marks-in_default.ensures;
       table = book_table book;
     }
 
-pub invariant-of-self : goal.invariant-of-self
-invariant-of-self c =
+pub invariant_of-self : goal.invariant_of-self
+invariant_of-self c =
     let book = c.args.self.now in
     let xs = vec_items book.others in
     let at = c.in-Ok.at in
-    let lt : at < length xs = (located xs _ c.args.size (Ok at) c.as-slice.ensures.value c.in-Ok.ensures).0 in
+    let lt : at < length xs = (located xs _ c.args.size (Ok at) c.as_slice.ensures.value c.in-Ok.ensures).0 in
     let e : vec_items c.remove.new.self ≡ remove xs at = c.remove.ensures.items in
     let units = vec_items c.remove.new.self in
     let nu = vec_items c.rebuild.new.entries in
@@ -84,20 +84,36 @@ invariant-of-self c =
     let leaves = leaves_from book.base units (entry_of nu) book.low past kept in
     let closed = closed_from book.base units (entry_of nu) book.low past kept in
     let stepped = stepped_from book.base units (entry_of nu) book.low past kept in
-    (book.low, (book.high, (sized, (small, (rising, (apart, (few, (room, (full, (space, (places, (start, (leaves, (closed, (stepped, tt)))))))))))))))
+    record {
+      low = book.low;
+      high = book.high;
+      sized = sized;
+      small = small;
+      rising = rising;
+      apart = apart;
+      few = few;
+      room = room;
+      full = full;
+      space = space;
+      places = places;
+      start = start;
+      leaves = leaves;
+      closed = closed;
+      stepped = stepped;
+    }
 
 pub returns : goal.returns
 returns c =
     let book = c.args.self.now in
     let xs = vec_items book.others in
-    let l = located xs _ c.args.size (Ok c.in-Ok.at) c.as-slice.ensures.value c.in-Ok.ensures in
+    let l = located xs _ c.args.size (Ok c.in-Ok.at) c.as_slice.ensures.value c.in-Ok.ensures in
     let same : c.from-base.result ≡ c.from-m.result = c.from-base.ensures ∙ sym c.from-m.ensures in
     record {
       turns =
           turns_accepted _ _ _ _
           (withdraw_fits book.base xs c.args.size (length c.args.strip.now) (omega (arith, c.from-m.ensures))
           (λ e. c.if-size-base.false (e ∙ sym c.from-base.ensures))
-          (has_place c.args.size xs _ _ c.as-slice.ensures.value c.in-Ok.ensures))
+          (has_place c.args.size xs _ _ c.as_slice.ensures.value c.in-Ok.ensures))
           (ap (λ (zs : List ℕ). book.base ∷ zs) (c.remove.ensures.items ∙ leave_out_is c.args.size xs c.in-Ok.at book.rising l.0 l.2));
       strip =
           left_cleared c.from-m.result book.base c.args.strip.now c.drop-marks-2.new.self.0 _ c.from-m.ensures

@@ -9,10 +9,10 @@ loop-remainder-preserved c =
     let entry = file_entry c.args.file.now in
     let r : ℕ = c.loop-remainder.remainder in
     let here : c.entry.result ≡ entry (0 + r) = c.entry.ensures ∙ ap entry (let e : r ≡ 0 + r = omega arith in e) in (
-      c.push-reserved.ensures.items
+      c.push_reserved.ensures.items
           ∙ ap (λ (zs : List (Option ℕ)). zs ++ c.entry.result ∷ []) c.loop-remainder.invariant.0
           ∙ ap (λ (o : Option ℕ). entries_from entry 0 r ++ o ∷ []) here
           ∙ sym (entries_push entry 0 r),
-      omega (arith, c.push-reserved.ensures.len, c.loop-remainder.invariant.1),
-      omega (arith, c.push-reserved.ensures.capacity, c.loop-remainder.invariant.2),
+      omega (arith, c.push_reserved.ensures.len, c.loop-remainder.invariant.1),
+      omega (arith, c.push_reserved.ensures.capacity, c.loop-remainder.invariant.2),
     )

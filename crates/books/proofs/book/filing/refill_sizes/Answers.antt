@@ -19,12 +19,12 @@ loop-position-preserved c =
     let there : slice_get others k ≡ Some c.unwrap.result =
     sym (nth_after (file_base c.args.file.now) others c.loop-position.position c.loop-position.auto.position) ∙ sym c.size.ensures ∙ c.unwrap.ensures in
     let on : k + 1 ≡ c.loop-position.position + 1 - 1 = omega (arith, c.loop-position.auto.position) in (
-      c.push-reserved.ensures.items
+      c.push_reserved.ensures.items
           ∙ ap (λ (zs : List ℕ). zs ++ c.unwrap.result ∷ []) c.loop-position.invariant.0
           ∙ sym (take_nth others k c.unwrap.result there)
           ∙ ap (λ (n : ℕ). take n others) on,
-      omega (arith, c.push-reserved.ensures.len, c.loop-position.invariant.1, c.loop-position.auto.position),
-      omega (arith, c.push-reserved.ensures.capacity, c.loop-position.invariant.2),
+      omega (arith, c.push_reserved.ensures.len, c.loop-position.invariant.1, c.loop-position.auto.position),
+      omega (arith, c.push_reserved.ensures.capacity, c.loop-position.invariant.2),
     )
 
 pub returns : goal.returns

@@ -61,7 +61,7 @@ refill-requires c =
     let p = ready (goal.at.refill-requires c).Joined-next-n in
     let less : c.args.n < c.args.m = unfinished (goal.at.refill-requires c).Joined-next-n c.if-strip-r-eq1.false in
     let free : c.args.n < length c.args.order.now = omega (arith, less, c.requires.shape.1.1.1.1) in
-    let small : (u : ℕ) → get_or c.args.sizes.now u 0 ≤ 65535 = λ u. omega (arith, c.type-inv.sizes u) in
+    let small : (u : ℕ) → get_or c.args.sizes.now u 0 ≤ 65535 = λ u. omega (arith, c.type_inv.sizes u) in
     let bound : c.args.x.load ≤ 65535 * c.args.n
     = new_bound _ _ _ _ _ _ _ _ p.0 c.requires.shape.1.1.0 free c.requires.shape.1.1.1.0 c.if-strip-r-eq1.false small in
     record {
@@ -80,7 +80,7 @@ returns c =
     let p = ready (goal.at.returns c).Joined-next-n in
     let less : c.args.n < c.args.m = unfinished (goal.at.returns c).Joined-next-n c.if-strip-r-eq1.false in
     let free : c.args.n < length c.args.order.now = omega (arith, less, c.requires.shape.1.1.1.1) in
-    let small : (u : ℕ) → get_or c.args.sizes.now u 0 ≤ 65535 = λ u. omega (arith, c.type-inv.sizes u) in
+    let small : (u : ℕ) → get_or c.args.sizes.now u 0 ≤ 65535 = λ u. omega (arith, c.type_inv.sizes u) in
     let e = c.refill.ensures in
     let st = settle_new _ _ _ _ _ _ _ _ p.0 c.requires.shape.1.1.0 free c.requires.shape.1.1.1.0 c.if-strip-r-eq1.false small _ e.waits in
     let z : get_or (set c.args.order.now c.args.n c.args.x.load) (c.args.n + 1 - 1) 0 ≡ c.args.x.load
