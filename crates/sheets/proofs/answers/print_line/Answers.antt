@@ -5,6 +5,6 @@ use Rattle.sheets.proofs.answers.print_line.Goals as goal
 pub returns : goal.returns
 returns c =
     let pushed = c.in_ok-push.ensures in
-    adds_line c.args.line c.args.outcome (string_bytes c.args.out.now) (string_bytes c.write.new.self) (string_bytes c.print-outcome.new.out) _
-    c.in_ok-write.ensures.bytes c.in_ok-print-outcome.ensures
-    (pushed.bytes ∙ ap (λ (bs : List ℕ). string_bytes c.print-outcome.new.out ++ bs) (pushed.ascii (omega arith)))
+    adds_line c.args.line c.args.outcome (string_bytes c.args.out.now) (string_bytes c.write.new.self) (string_bytes c.print_outcome.new.out) _
+    c.in_ok-write.ensures.bytes c.in_ok-print_outcome.ensures
+    (pushed.bytes ∙ ap (λ (bs : List ℕ). string_bytes c.print_outcome.new.out ++ bs) (pushed.ascii (omega arith)))

@@ -6,9 +6,9 @@ use Rattle.sheets.proofs.whole.answer_lines.Goals as goal
 
 pub loop-at-preserved : goal.loop-at-preserved
 loop-at-preserved c =
-    let adds = c.in_ok-print-line.ensures in
-    sofar_more c.args.input.now c.loop-at.at c.loop-at.number c.line-end-end.result (standing c.loop-at.sheet) (standing c.answer-outcome.new.self)
-    c.answer-outcome.result (string_bytes c.loop-at.out) _ c.loop-at.invariant c.line-end-end.ensures.after c.line-end-end.ensures.within c.line-end-end.ensures.line
+    let adds = c.in_ok-print_line.ensures in
+    sofar_more c.args.input.now c.loop-at.at c.loop-at.number c.line_end-end.result (standing c.loop-at.sheet) (standing c.answer-outcome.new.self)
+    c.answer-outcome.result (string_bytes c.loop-at.out) _ c.loop-at.invariant c.line_end-end.ensures.after c.line_end-end.ensures.within c.line_end-end.ensures.line
     (c.answer-outcome.ensures (printed_kept _ c.answer-outcome.result adds.bytes adds.printed)) adds
 
 pub returns : goal.returns

@@ -8,4 +8,4 @@ returns-in_err-line c =
     rw (p.1, p.2) (λ _. unread c.in_err-line.field-0.0 c.in_err-line.ensures)
 
 pub returns : goal.returns
-returns c = λ kept. carried c.in_ok-line.line c.carry-out.result _ c.in_ok-line.ensures (c.carry-out.ensures kept)
+returns c = λ kept. carried c.in_ok-line.line c.carry_out.result _ c.in_ok-line.ensures (c.carry_out.ensures kept)
