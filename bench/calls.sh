@@ -9,11 +9,7 @@ library=target/staticlib/libcontrol.a
 out=target/c
 mkdir -p "$out"
 
-if ! rt staticlib control >"$out/staticlib.log" 2>&1; then
-    cat "$out/staticlib.log"
-    echo "bench/calls.sh: the static library was not built" >&2
-    exit 1
-fi
+tools/static_library
 
 "${CC:-cc}" -std=c11 -O2 -Wall -Wextra -Werror -pedantic -Iinclude -Ibench \
     bench/calls.c bench/plain.c "$library" -o "$out/calls_bench"

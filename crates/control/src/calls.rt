@@ -1,4 +1,4 @@
-//! The two exported calls. Neither takes memory or keeps anything from one call to the next.
+//! The two calls that are exported to C by `control_c`. Neither takes memory or keeps anything from one call to the next.
 
 ghost use Rattle.std.specs.Prelude.{◌≡◌, ◌*◌, ◌≤◌, ◌++◌, length, drop};
 ghost use Rattle.control.specs.Calls.{JudgesBytes, MakesBytes};
@@ -12,8 +12,7 @@ use files::{judge, make_from};
 const MOST_UNITS: usize = 16;
 
 /// Judges the bytes of a file: 0, or the packed refusal.
-#[unsafe(no_mangle)]
-pub extern "C" fn tovleng_judge(file: &[u8]) -> u64
+pub fn tovleng_judge(file: &[u8]) -> u64
     ensures { JudgesBytes file.now result }
 {
     match judge(file) {
@@ -49,8 +48,7 @@ fn make_through(file: &[u8], load: u64, numbers: &mut [u32], out: &mut [u8]) -> 
 
 /// Makes a load from the units of a file and writes how many of each: 0, or the packed refusal.
 /// Where the call is refused the output stays as it is.
-#[unsafe(no_mangle)]
-pub extern "C" fn tovleng_make(file: &[u8], load: u64, out: &mut [u8]) -> u64
+pub fn tovleng_make(file: &[u8], load: u64, out: &mut [u8]) -> u64
     ensures { MakesBytes file.now load out.old result out.new }
 {
     make_through(file, load, &mut [0; MOST_UNITS], out)
