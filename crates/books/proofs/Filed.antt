@@ -1,5 +1,5 @@
 -- What a file lists, copied place by place, and why a book of it keeps its invariant.
-use Rattle.std.proofs.Common.{◌≡◌, ℕ, zero, suc, ◌+◌, ◌-◌, ◌<◌, ◌≤◌, ltb, List, [], ◌∷◌, ◌++◌, length, take, drop, Some, None, Option, sym, refl, ap, ◌∙◌, inl, inr, arith}
+use Rattle.std.proofs.Common.{◌≡◌, ℕ, zero, suc, ◌+◌, ◌<◌, ◌≤◌, ltb, List, [], ◌∷◌, ◌++◌, length, take, drop, Some, None, Option, sym, refl, ap, ◌∙◌, inl, inr, arith}
 use Rattle.files.specs.Fields.{be16}
 use Rattle.files.specs.Judged.{TrueFile}
 use Rattle.files.specs.Layout.{file_base, file_entry, file_others, file_row, file_units}

@@ -1,5 +1,5 @@
 -- What every book holds: the true table of its row, and room for each unit that may be admitted.
-use Rattle.std.proofs.Common.{◌≡◌, ℕ, zero, suc, ◌+◌, ◌-◌, ◌*◌, ◌<◌, ◌≤◌, List, ◌∷◌, length, get_or, Some, None, vec_items, vec_len, Option, refl, ap, subst, mod-lt, arith}
+use Rattle.std.proofs.Common.{◌≡◌, ℕ, zero, suc, ◌-◌, ◌<◌, ◌≤◌, length, get_or, vec_items, arith}
 use Rattle.std.proofs.lemmas.Nat.{mul-le}
 use Rattle.tables.specs.Rows.{Row, Table}
 use Rattle.tables.proofs.Tested.{table_from}

@@ -1,7 +1,6 @@
 -- When a size is a multiple of another.
-use Rattle.std.proofs.Common.{◌≡◌, ℕ, zero, suc, ◌*◌, ◌/◌, ◌%◌, ◌<◌, ◌≤◌, Bool, true, false, ◌||◌, List, ◌∷◌, length, get_or, Decides, sym, refl, ap, ◌∙◌, subst, mul_comm, arith}
+use Rattle.std.proofs.Common.{◌≡◌, ℕ, zero, suc, ◌/◌, ◌%◌, ◌<◌, Bool, List, ◌∷◌, length, get_or, Decides, sym, ap, ◌∙◌, mul_comm, arith}
 use native.Mathlib.Nat.{div-add-mod, mul-mod_left}
-use Rattle.std.proofs.lemmas.Bool.{false≢true}
 use Rattle.books.specs.Units.{Multiple, Spare}
 
 pub multiple_from : (unit size : ℕ) → (unit ≡ size → ⊥) → size % unit ≡ 0 → Multiple unit size

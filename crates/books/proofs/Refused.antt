@@ -1,7 +1,6 @@
 -- Which refusal the row and the argument give.
-use Rattle.std.proofs.Common.{◌≡◌, ℕ, suc, ◌<◌, ◌≤◌, Bool, true, false, cond, ◌&&◌, ◌||◌, eqb, ltb, leb, List, [], ◌∷◌, length, Some, None, Option, sym, refl, arith}
+use Rattle.std.proofs.Common.{◌≡◌, ℕ, suc, ◌<◌, ◌≤◌, true, false, List, ◌∷◌, length, Some, None, sym, arith}
 use Rattle.std.proofs.lemmas.Bool.{le-leb, lt-leb, lt-ltb, le-ltb, eq-eqb, ne_eqb}
-use Rattle.tables.specs.declared.refusals.Refusal.{Refusal}
 use Rattle.tables.specs.declared.refusals.Refusal.TheVariants.{AlreadyAdmitted, RowFull, NotAdmitted, IsBase, NoRoom}
 use Rattle.books.specs.Units.{has}
 use Rattle.books.specs.Calls.{open_refusal, admit_refusal, withdraw_refusal}

@@ -1,5 +1,5 @@
 -- The law over every past: the row of a book is the one that its past tells, and what the past says was accepted is what the told rows decide.
-use Rattle.std.proofs.Common.{◌≡◌, ℕ, Bool, true, false, cond, List, [], ◌∷◌, is_ok, Some, None, Ok, Err, MatchBool, Option, Result, sym, refl, ap, ◌∙◌, arith}
+use Rattle.std.proofs.Common.{◌≡◌, ℕ, cond, List, [], ◌∷◌, is_ok, Some, None, Ok, Err, MatchBool, Option, Result, sym, refl, ap, ◌∙◌, arith}
 use Rattle.files.specs.Judged.{TrueFile}
 use Rattle.files.specs.Layout.{file_row}
 use Rattle.std.proofs.lemmas.Bool.{false≢true}

@@ -1,5 +1,5 @@
 -- How a call shows what it did to the book.
-use Rattle.std.proofs.Common.{◌≡◌, ℕ, List, [], ◌∷◌, Some, None, Ok, Err, Option, Result, sym, refl, subst}
+use Rattle.std.proofs.Common.{◌≡◌, ℕ, List, Some, None, Ok, Err, Option, sym, refl, subst}
 use Rattle.tables.specs.declared.refusals.Refusal.{Refusal}
 use Rattle.books.specs.declared.book.Book.{Book}
 use Rattle.books.specs.Books.{row_of}

@@ -1,6 +1,6 @@
 -- Why every book keeps the sentences of a source: its invariant gives the rules, and these a ceiling for its entries.
 -- The source cites this proof, so it stands among the definitions.
-use Rattle.std.specs.Prelude.{◌≡◌, ℕ, ◌-◌, ◌*◌, ◌%◌, ◌<◌, ◌≤◌, length, Some, None, vec_items, vec_len, Option}
+use Rattle.std.specs.Prelude.{◌≡◌, ℕ, ◌-◌, ◌<◌, ◌≤◌, length, Some, None, vec_items}
 use Rattle.std.proofs.Common.{arith, mod-lt}
 use Rattle.std.proofs.lemmas.Nat.{mul-le}
 use Rattle.std.proofs.lemmas.List.{get_or_past}

@@ -1,5 +1,5 @@
 -- What a survey answers of a book, for whatever past the book has, and of any other source.
-use Rattle.std.specs.Prelude.{◌≡◌, ℕ, true, List, ◌∷◌, ℤ, is_ok, Option, Result, MatchResult}
+use Rattle.std.specs.Prelude.{◌≡◌, ℕ, true, List, ℤ, is_ok, Option, Result, MatchResult}
 use Rattle.files.specs.Judged.{TrueFile}
 use Rattle.tables.specs.Made.{Make}
 use Rattle.tables.specs.Missing.{GreatestMissing, MissingCount, Unending}

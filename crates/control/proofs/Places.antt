@@ -3,7 +3,7 @@ use Rattle.std.proofs.Common.{ℕ, zero, suc, ◌<◌, ◌≤◌, List, length, 
 use Rattle.files.specs.Faults.{Fault, broken, cut, short, long}
 use Rattle.files.specs.Judged.{Rejects, TrueFile, malformed, untrue}
 use Rattle.files.proofs.Places.{row_length}
-use Rattle.files.specs.Layout.{Keeps, Kept, WellFormed, field_start, field_end, fields, file_base, file_row, file_units, proper_length}
+use Rattle.files.specs.Layout.{Kept, field_start, fields, file_base, file_row, file_units, proper_length}
 use Rattle.tables.specs.declared.refusals.Refusal.{Refusal}
 use Rattle.control.specs.Packing.{Short}
 

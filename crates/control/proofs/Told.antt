@@ -1,5 +1,5 @@
 -- What is told of a refusal by make: want of room in bytes, and all else as it is.
-use Rattle.std.proofs.Common.{◌≡◌, ℕ, ◌+◌, ◌*◌, ◌/◌, ◌%◌, ◌<◌, ◌≤◌, min, List, ◌++◌, length, take, drop, Some, Ok, Err, Result, sym, refl, ap, ◌∙◌, subst, arith, length-append}
+use Rattle.std.proofs.Common.{◌≡◌, ℕ, ◌*◌, ◌/◌, ◌%◌, ◌<◌, ◌≤◌, min, List, ◌++◌, length, take, drop, Some, Ok, Err, Result, sym, refl, ap, ◌∙◌, subst, arith, length-append}
 use Rattle.std.proofs.lemmas.List.{length-take-le, take-append-le}
 use Rattle.std.specs.List.{flat_map}
 use Rattle.files.specs.Fields.{be32}
@@ -8,7 +8,6 @@ use Rattle.files.specs.Layout.{file_row}
 use Rattle.files.specs.Making.{MakeFrom, accepted, refused}
 use Rattle.tables.proofs.Entries.{same_entry}
 use Rattle.tables.specs.Made.{Made, Refuses, too_large, too_short, unmade}
-use Rattle.tables.specs.Refusals.{place_of}
 use Rattle.tables.specs.Rows.{base_of}
 use Rattle.tables.specs.declared.refusals.Refusal.{Refusal}
 use Rattle.tables.specs.declared.refusals.Refusal.TheVariants.{NoRoom}

@@ -1,5 +1,5 @@
 -- The sentences of a row, each a proposition, so that a type can carry them as its invariant.
-use Rattle.std.specs.Prelude.{◌≡◌, ℕ, ◌<◌, ◌≤◌, List, length, ◌≢◌, slice_index}
+use Rattle.std.specs.Prelude.{ℕ, ◌<◌, ◌≤◌, List, length, ◌≢◌, slice_index}
 use Rattle.tables.specs.Rows.{base_of}
 
 -- Each unit has a size from 1 to 65,535.

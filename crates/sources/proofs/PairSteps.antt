@@ -1,5 +1,5 @@
 -- A pair shows its row: the two units, and the other unit as the step at every remainder but 0.
-use Rattle.std.proofs.Common.{◌≡◌, ℕ, zero, suc, ◌<◌, ◌≤◌, ◌⊎◌, List, length, get_or, Some, None, Option, refl, ap, ◌∙◌, inl, inr, arith}
+use Rattle.std.proofs.Common.{◌≡◌, ℕ, zero, suc, ◌<◌, ◌≤◌, ◌⊎◌, length, get_or, Some, None, Option, refl, ap, inl, inr, arith}
 use Rattle.tables.specs.Rows.{Row, Table}
 use Rattle.tables.specs.Steps.{step_at}
 use Rattle.tables.proofs.Entries.{not_both}

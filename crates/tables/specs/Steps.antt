@@ -1,5 +1,5 @@
 -- Steps: the unit by which the entry at a remainder is reached from another entry.
-use Rattle.std.specs.Prelude.{◌≡◌, ℕ, ◌+◌, ◌-◌, ◌%◌, ◌<◌, ◌≤◌, Bool, true, false, cond, List, [], ◌∷◌, length, drop, Some, None, Option, ◌==◌, slice_index}
+use Rattle.std.specs.Prelude.{◌≡◌, ℕ, ◌+◌, ◌-◌, ◌%◌, ◌<◌, ◌≤◌, Bool, false, cond, List, [], ◌∷◌, length, drop, Some, None, Option, ◌==◌, slice_index}
 use Rattle.tables.specs.Rows.{Least, base_of}
 
 -- (r − g) mod m: the remainder from which a unit of size g leads to r.

@@ -1,4 +1,4 @@
-use Rattle.std.proofs.Common.{◌≡◌, ℕ, None, Option, sym, ap, arith}
+use Rattle.std.proofs.Common.{ℕ, None, Option, sym, ap, arith}
 use Rattle.std.proofs.lemmas.List.{get_or_past}
 use Rattle.tables.specs.Steps.{back, is_sum}
 use Rattle.tables.specs.Tables.{entry_of}

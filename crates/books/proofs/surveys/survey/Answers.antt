@@ -1,5 +1,4 @@
-use Rattle.std.proofs.Common.{◌≡◌, ℕ, List, subst}
-use Rattle.books.specs.Books.{row_of}
+use Rattle.std.proofs.Common.{ℕ, List, subst}
 use Rattle.books.specs.Pasts.{restored}
 use Rattle.books.specs.Surveys.{RowAnswers}
 use Rattle.books.proofs.Runs.{honest_law, restored_exactly, run_law}

@@ -1,4 +1,4 @@
-use Rattle.std.proofs.Common.{◌≡◌, sym, ◌∙◌, arith}
+use Rattle.std.proofs.Common.{◌≡◌, ◌∙◌, arith}
 use Rattle.tables.proofs.Entries.{same_entry}
 use Rattle.control.proofs.packing.pack.Goals as goal
 

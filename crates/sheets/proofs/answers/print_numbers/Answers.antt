@@ -1,4 +1,4 @@
-use Rattle.std.proofs.Common.{◌≡◌, ℕ, List, ◌++◌, string_bytes, ap, ◌∙◌, take_all}
+use Rattle.std.proofs.Common.{ℕ, List, ◌++◌, string_bytes, ap, ◌∙◌, take_all}
 use Rattle.sheets.specs.Answers.{numbers_text}
 use Rattle.sheets.proofs.Printing.{numbers_more}
 use Rattle.sheets.proofs.answers.print_numbers.Goals as goal

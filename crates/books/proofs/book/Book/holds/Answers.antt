@@ -1,4 +1,4 @@
-use Rattle.std.proofs.Common.{◌≡◌, Bool, true, false, ◌||◌, eqb, vec_items, sym, ap, ◌∙◌}
+use Rattle.std.proofs.Common.{Bool, ◌||◌, vec_items, sym, ap, ◌∙◌}
 use Rattle.std.proofs.lemmas.Bool.{eq-eqb, ne_eqb}
 use Rattle.books.specs.Units.{has}
 use Rattle.books.proofs.Lists.{found}

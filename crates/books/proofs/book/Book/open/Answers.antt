@@ -1,4 +1,4 @@
-use Rattle.std.proofs.Common.{◌≡◌, ℕ, ◌-◌, ◌<◌, ◌≤◌, List, [], ◌∷◌, length, vec_items, vec_len, vec_capacity, sym, refl, ap, ◌∙◌, subst, arith}
+use Rattle.std.proofs.Common.{◌≡◌, ℕ, ◌-◌, ◌≤◌, List, ◌∷◌, length, vec_items, vec_len, refl, ap, arith}
 use Rattle.books.specs.Units.{Apart, Rising, Sized, Small}
 use Rattle.books.proofs.Begins.{begun_start, begun_absent, begun_leaves, begun_closed, begun_stepped, begun_full}
 use Rattle.books.proofs.Refused.{open_fits}

@@ -1,4 +1,4 @@
-use Rattle.std.proofs.Common.{◌≡◌, ℕ, suc, ◌<◌, ◌≤◌, List, ◌∷◌, length, vec_items, vec_len, sym, refl, ap, ◌∙◌, subst, arith}
+use Rattle.std.proofs.Common.{◌≡◌, ℕ, suc, ◌≤◌, List, ◌∷◌, length, vec_items, vec_len, sym, refl, ap, ◌∙◌, subst, arith}
 use Rattle.files.specs.Layout.{file_base, file_entry, file_others, file_row}
 use Rattle.files.specs.Written.{written}
 use Rattle.std.proofs.lemmas.Result.{err_from_is_err_and}

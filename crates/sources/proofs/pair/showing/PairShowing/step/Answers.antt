@@ -1,4 +1,4 @@
-use Rattle.std.proofs.Common.{◌⊎◌, inl, inr, ⊎_elim}
+use Rattle.std.proofs.Common.{inl, inr, ⊎_elim}
 use Rattle.sources.proofs.PairSteps.{step_there, step_absent}
 use Rattle.sources.proofs.pair.showing.PairShowing.step.Goals as goal
 
