@@ -162,7 +162,7 @@ fn saves_file(rt: HostRuntime) {
     let mut out = [7; 34];
     assert_eq!(rt; save(&Sample, &mut out), Ok(32));
     assert!(rt; &out[0..32] == FILE);
-    assert!(rt; &out[32..34] == b"\x07\x07");
+    assert!(rt; &out[32..34] == b"\x07\x07".as_slice());
 }
 
 #[test]
