@@ -1,8 +1,7 @@
 //! Trailers, which wait by minute, then by line, then by load.
 
 ghost use Rattle.std.specs.Prelude.{◌≡◌};
-ghost use Rattle.waiting.specs.Trailers.{earlier};
-ghost use Rattle.std.proofs.Common.{rules};
+ghost use Rattle.waiting.specs.Trailers.{earlier, earlier_apart, earlier_ranks};
 
 use crate::list::Queued;
 
@@ -18,9 +17,9 @@ pub struct Trailer {
 impl Queued for Trailer {
     ghost before = { earlier };
 
-    ghost ranks = { Prim.search rules };
+    ghost ranks = { earlier_ranks };
 
-    ghost apart = { Prim.search rules };
+    ghost apart = { earlier_apart };
 
     fn precedes(&self, other: &Trailer) -> bool {
         if self.minute != other.minute {

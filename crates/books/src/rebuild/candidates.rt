@@ -1,8 +1,7 @@
 //! The candidates of a merge: a load, and the position of the unit that leads to it.
 
 ghost use Rattle.std.specs.Prelude.{◌≡◌};
-ghost use Rattle.books.specs.Candidates.{sooner};
-ghost use Rattle.std.proofs.Common.{rules};
+ghost use Rattle.books.specs.Candidates.{sooner, sooner_apart, sooner_ranks};
 
 use waiting::Queued;
 
@@ -17,9 +16,9 @@ pub(crate) struct Candidate {
 impl Queued for Candidate {
     ghost before = { sooner };
 
-    ghost ranks = { Prim.search rules };
+    ghost ranks = { sooner_ranks };
 
-    ghost apart = { Prim.search rules };
+    ghost apart = { sooner_apart };
 
     fn precedes(&self, other: &Candidate) -> bool {
         if self.load == other.load {
