@@ -1,7 +1,12 @@
 #!/bin/sh
 # Times withdrawals on a book of base 4,096 with sixteen units: a sheet of 1,000 withdrawals and as many admits.
-# Run from the repository's root after `rt check day_sheet`. Not part of the gate.
+# Not part of the gate.
 set -eu
+
+cd "$(dirname "$0")/.."
+
+day_sheet=crates/day_sheet/out/day_sheet
+(cd crates/day_sheet && rt run < stdin) > /dev/null 2>&1
 sheet=$(mktemp)
 trap 'rm -f "$sheet"' EXIT
 {
@@ -15,8 +20,8 @@ trap 'rm -f "$sheet"' EXIT
         i=$((i + 1))
     done
 } > "$sheet"
-echo "lines: $(wc -l < "$sheet"), refused: $(target/bin/day_sheet < "$sheet" | grep -c ' no ' || true)"
+echo "lines: $(wc -l < "$sheet"), refused: $("$day_sheet" < "$sheet" | grep -c ' no ' || true)"
 start=$(date +%s%N)
-target/bin/day_sheet < "$sheet" > /dev/null
+"$day_sheet" < "$sheet" > /dev/null
 end=$(date +%s%N)
 echo "1,000 withdrawals and 1,015 admits: $(((end - start) / 1000000)) ms"
