@@ -6,7 +6,12 @@ set -eu
 cd "$(dirname "$0")/.."
 
 day_sheet=crates/day_sheet/out/day_sheet
-(cd crates/day_sheet && rt run < stdin) > /dev/null 2>&1
+mkdir -p target
+if ! (cd crates/day_sheet && rt run < stdin) > target/day_sheet.log 2>&1; then
+    cat target/day_sheet.log
+    echo "bench/withdraw.sh: the program was not built" >&2
+    exit 1
+fi
 sheet=$(mktemp)
 trap 'rm -f "$sheet"' EXIT
 {
