@@ -5,7 +5,7 @@ use Rattle.std.proofs.lemmas.List.{get_or-replicate, get_or_past, length-replica
 use Rattle.std.proofs.lemmas.Bool.{cases_lt}
 use Rattle.tables.specs.Tables.{entry_of}
 use Rattle.tables.specs.Tests.{Leaves, AllClosed, AllStepped}
-use Rattle.tables.proofs.Entries.{entry_cases, same_entry, not_both}
+use Rattle.tables.proofs.Present.{entry_cases, same_entry, not_both}
 use Rattle.tables.proofs.Tested.{some_present}
 
 -- nothing is present past 0

@@ -4,7 +4,7 @@ use native.Mathlib.Nat.{mod-add-mod}
 use Rattle.std.specs.List.{insert}
 use Rattle.tables.specs.Rules.{Reached, ReachedBySome, Rules}
 use Rattle.tables.specs.Tables.{Within}
-use Rattle.tables.proofs.Entries.{same_entry}
+use Rattle.tables.proofs.Present.{same_entry}
 use Rattle.books.specs.Rings.{Grown, Extended}
 use Rattle.tables.specs.Tests.{Leaves}
 use Rattle.books.proofs.Inserted.{in_which, in_new, in_old}

@@ -5,7 +5,7 @@ use Rattle.std.proofs.lemmas.Bool.{cases_lt, cases_eq}
 use Rattle.books.specs.Leasts.{Leasts, Entered}
 use Rattle.tables.specs.Rows.{Makes, Table}
 use Rattle.tables.specs.Tables.{entry_of}
-use Rattle.tables.proofs.Entries.{same_entry, not_both}
+use Rattle.tables.proofs.Present.{same_entry, not_both}
 
 pub entered_none : (m : ℕ) (order : List ℕ) (entries : List (Option ℕ)) → ((r : ℕ) → r < length entries → entry_of entries r ≡ None) → Entered m order 0 entries
 entered_none m order entries none = record {

@@ -3,6 +3,7 @@ pub mod Lists
 pub mod Inserted
 pub mod Removed
 pub mod Multiples
+pub mod Located
 pub mod Mods
 pub mod Lows
 pub mod Walks
@@ -10,7 +11,6 @@ pub mod Rounds
 pub mod Wholes
 pub mod Extends
 pub mod Filed
-pub mod Held
 pub mod Refused
 pub mod Turned
 pub mod Runs

@@ -1,11 +1,15 @@
 -- The lowest present entry of a ring, found one remainder after another.
-use Rattle.std.proofs.Common.{◌≡◌, ℕ, zero, suc, ◌+◌, ◌-◌, ◌*◌, ◌/◌, ◌%◌, ◌<◌, ◌≤◌, min, ◌⊎◌, Some, None, Option, sym, ap, ◌∙◌, subst, inl, inr, mod-lt, suc-mul, zero-mul, arith}
+use Rattle.std.proofs.Common.{◌≡◌, ℕ, zero, suc, ◌+◌, ◌-◌, ◌*◌, ◌/◌, ◌%◌, ◌<◌, ◌≤◌, min, ◌⊎◌, List, [], ◌++◌, length, get_or, Some, None, Option, sym, ap, ◌∙◌, subst, inl, inr, mod-lt, mod-eq_of_lt, suc-mul, zero-mul, append_assoc, length-append, arith}
+use Rattle.std.proofs.Math.ListN.{get_or-append}
+use Rattle.std.proofs.Math.Nat.{add-mul-mod_self_right}
+use Rattle.std.proofs.lemmas.List.{get_or-append-add}
 use native.Mathlib.Nat.{mod-mod_of_dvd, dvd_of_mod-eq-zero}
 use Rattle.std.proofs.lemmas.Bool.{cases_lt}
-use Rattle.tables.proofs.Entries.{entry_cases, same_entry, not_both}
+use Rattle.tables.proofs.Present.{entry_cases, same_entry, not_both}
 use Rattle.books.specs.Rings.{Lowest, lesser_entry}
+use Rattle.tables.specs.Tables.{entry_of}
 use Rattle.tables.specs.Tests.{Leaves}
-use Rattle.books.proofs.Mods.{apart}
+use Rattle.books.proofs.Mods.{apart, class_below}
 
 -- What the lowest entry of the ring of s is as far as the entries below t say.
 abbrev pub LowestBelow : ℕ → ℕ → ℕ → ℕ → (ℕ → Option ℕ) → Option ℕ → Type 0
@@ -75,3 +79,47 @@ lowest_all m d s t entry some past leaves None none =
     ]
 lowest_all m d s t entry some past leaves (Some n) low =
     (low.0, low.1, λ r e c p. low.2 r e (omega (arith, mod-lt e some, leaves r e p)) c p)
+
+-- The lowest entry of the ring of s as far as the turns of d remainders that are passed say, where these entries are left.
+pub record Turned (entries : List (Option ℕ)) (d s : ℕ) (left : List (Option ℕ)) (low : Option ℕ) : Type 0 where
+  passed : List (Option ℕ)
+  turns : ℕ
+  counted : length passed ≡ turns * d
+  whole : passed ++ left ≡ entries
+  lowest : LowestBelow (length entries) d s (s + turns * d) (entry_of entries) low
+
+module _ (entries : List (Option ℕ)) (d s : ℕ) (some : s < d) where
+  pub turned_none : (left : List (Option ℕ)) → left ≡ entries → Turned entries d s left None
+  turned_none left e =
+      record {
+        passed = [];
+        turns = 0;
+        counted = sym (zero-mul d);
+        whole = e;
+        lowest = λ r l c. absurd (class_below d s r some (omega (arith, zero-mul d)) c);
+      }
+
+  pub turned_more : Leaves (length entries) (entry_of entries) → length entries % d ≡ 0 → (left turn : List (Option ℕ)) (low : Option ℕ)
+      → Turned entries d s (turn ++ left) low → length turn ≡ d → Turned entries d s left (lesser_entry low (get_or turn s None))
+  turned_more leaves divides left turn low t long =
+      let further : s + (t.turns + 1) * d ≡ s + t.turns * d + d = omega (arith, suc-mul t.turns d) in
+      let here : entry_of entries (s + t.turns * d) ≡ get_or turn s None =
+      ap (λ (xs : List (Option ℕ)). get_or xs (s + t.turns * d) None) (sym t.whole)
+      ∙ ap (λ (i : ℕ). get_or (t.passed ++ (turn ++ left)) i None) (let e : s + t.turns * d ≡ length t.passed + s = omega (arith, t.counted) in e)
+      ∙ get_or-append-add t.passed (turn ++ left) s None
+      ∙ get_or-append turn left None s (omega arith) in
+      record {
+        passed = t.passed ++ turn;
+        turns = t.turns + 1;
+        counted = omega (arith, length-append t.passed turn, t.counted, long, suc-mul t.turns d);
+        whole = append_assoc t.passed turn left ∙ t.whole;
+        lowest = subst (λ (k : ℕ). LowestBelow (length entries) d s k (entry_of entries) (lesser_entry low (get_or turn s None))) (sym further)
+            (lowest_more (length entries) d s (s + t.turns * d) (entry_of entries) leaves divides (add-mul-mod_self_right s t.turns d ∙ mod-eq_of_lt some) low (get_or turn s None) here t.lowest);
+      }
+
+  pub turned_all : 1 ≤ length entries → Leaves (length entries) (entry_of entries) → length entries % d ≡ 0 → (left : List (Option ℕ)) (low : Option ℕ)
+      → Turned entries d s left low → length left < d → Lowest (length entries) d s (entry_of entries) low
+  turned_all present leaves divides left low t short =
+      let sum : length entries ≡ length left + t.turns * d = omega (arith, ap length (sym t.whole), length-append t.passed left, t.counted) in
+      let none : length left ≡ 0 = sym (mod-eq_of_lt short) ∙ sym (add-mul-mod_self_right (length left) t.turns d) ∙ ap (λ (k : ℕ). k % d) (sym sum) ∙ divides in
+      lowest_all (length entries) d s (s + t.turns * d) (entry_of entries) present (omega arith) leaves low t.lowest

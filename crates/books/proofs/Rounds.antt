@@ -2,7 +2,7 @@
 use Rattle.std.proofs.Common.{◌≡◌, ℕ, ◌+◌, ◌*◌, ◌%◌, ◌<◌, ◌≤◌, Some, None, Option, sym, refl, ap, ◌∙◌, inl, inr, mod-lt, zero-mul, arith}
 use Rattle.std.proofs.lemmas.Bool.{cases_eq}
 use Rattle.tables.specs.Tables.{Within}
-use Rattle.tables.proofs.Entries.{not_both}
+use Rattle.tables.proofs.Present.{not_both}
 use Rattle.books.specs.Rings.{Grown, Common, Lowest, Round, Extended, Room, RingRoom}
 use Rattle.tables.specs.Tests.{Leaves}
 use Rattle.books.proofs.Mods.{class_at, class_add, ring_class}

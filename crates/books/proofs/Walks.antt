@@ -4,7 +4,7 @@ use native.Mathlib.Nat.{mod-add-mod}
 use Rattle.std.proofs.lemmas.List.{length-set, get_or-set_same, get_or-set_other}
 use Rattle.std.proofs.lemmas.Bool.{cases_eq, cases_lt}
 use Rattle.tables.specs.Tables.{Within, entry_of}
-use Rattle.tables.proofs.Entries.{same_entry, not_both}
+use Rattle.tables.proofs.Present.{same_entry, not_both}
 use Rattle.books.specs.Rings.{Grown, Common, Lowest, Round, lesser_load}
 use Rattle.tables.specs.Tests.{Leaves}
 use Rattle.books.proofs.Mods.{same_add, ring_class, ring_closes, ring_covers, ring_short}

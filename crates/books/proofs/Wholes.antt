@@ -3,7 +3,7 @@ use Rattle.std.proofs.Common.{◌≡◌, ℕ, zero, suc, ◌+◌, ◌*◌, ◌%�
 use native.Mathlib.Nat.{mod-mod, mod-add-mod}
 use Rattle.tables.specs.Rules.{Reached}
 use Rattle.tables.specs.Tables.{Within}
-use Rattle.tables.proofs.Entries.{same_entry}
+use Rattle.tables.proofs.Present.{same_entry}
 use Rattle.books.specs.Rings.{Grown, Extended}
 use Rattle.tables.specs.Tests.{Leaves}
 

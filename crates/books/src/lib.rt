@@ -5,7 +5,6 @@ mod book;
 mod rebuild;
 mod rings;
 mod sizes;
-mod steps;
 mod surveys;
 
 pub use book::Book;

@@ -24,12 +24,9 @@ fn common_divisor(base: u32, unit: u32) -> u32
     requires { 1 ≤ base }
     ensures { Common base unit result }
 {
-    let mut a = base;
-    let mut b = unit;
+    let (mut a, mut b) = (base, unit);
     while b != 0 {
-        let c = a % b;
-        a = b;
-        b = c;
+        (a, b) = (b, a % b);
     }
     a
 }
@@ -38,20 +35,14 @@ fn common_divisor(base: u32, unit: u32) -> u32
 fn lower_load(load: u32, least: Option<u32>) -> u32
     ensures { result ≡ lesser_load load least }
 {
-    match least {
-        Some(e) => load.min(e),
-        None => load,
-    }
+    least.map_or(load, |entry| load.min(entry))
 }
 
 /// The lesser of two entries, of which an absent one is the greater.
 fn lower_entry(low: Option<u32>, least: Option<u32>) -> Option<u32>
     ensures { result ≡ lesser_entry low least }
 {
-    match low {
-        Some(n) => Some(lower_load(n, least)),
-        None => least,
-    }
+    low.map_or(least, |load| Some(lower_load(load, least)))
 }
 
 /// The lowest present entry of a ring, of the remainders start, start + stride, ..; none where all are absent.
@@ -63,10 +54,8 @@ fn lowest_in_ring(entries: &[Option<u32>], start: usize, stride: usize) -> Optio
     ensures { Lowest (length entries.now) stride start (entry_of entries.now) result }
 {
     let mut low = None;
-    let mut t = start;
-    while t < entries.len() {
-        low = lower_entry(low, entries[t]);
-        t += stride;
+    for turn in entries.chunks_exact(stride) {
+        low = lower_entry(low, turn[start]);
     }
     low
 }

@@ -1,22 +1,14 @@
 //! Sizes among others: where one stands, and whether it is a multiple of another.
 
 ghost use Rattle.std.specs.Prelude.{◌≤◌, Decides};
-ghost use Rattle.books.specs.Units.{Located, Multiple, Sized, Spare};
+ghost use Rattle.books.specs.Units.{Located, Multiple, Rising, Sized, Spare};
 
 /// Where a size stands among ascending sizes, or else the place that it would have.
 pub(crate) fn find(sizes: &[u16], size: u32) -> Result<usize, usize>
+    requires { Rising sizes.now }
     ensures { Located sizes.now size result }
 {
-    for (i, x) in sizes.iter().enumerate() {
-        let x = u32::from(*x);
-        if x == size {
-            return Ok(i);
-        }
-        if x > size {
-            return Err(i);
-        }
-    }
-    Err(sizes.len())
+    sizes.binary_search_by_key(&size, |&unit| u32::from(unit))
 }
 
 /// Whether a size is a multiple of another one.
@@ -32,10 +24,5 @@ pub(crate) fn multiple_of_some(sizes: &[u16], size: u32) -> bool
     requires { Sized sizes.now }
     ensures { Decides result (Spare sizes.now size) }
 {
-    for x in sizes {
-        if multiple(u32::from(*x), size) {
-            return true;
-        }
-    }
-    false
+    sizes.iter().any(|&unit| multiple(u32::from(unit), size))
 }

@@ -46,7 +46,7 @@ pub fn survey<S: Showing, T: Source>(
     ensures told { (base : ℕ) (past : List Event) → Leads base past book.old → RowAnswers (told base past) load numbers.old result.made numbers.new result.largest result.gaps }
     ensures honest { (base : ℕ) (past : List Event) → Leads base past book.old → Honest base past }
     ensures shown { Make (S.Showing.row showing.now) load places.old result.shown places.new }
-    ensures source { SourceAnswers (T.Source.modulus source.now) (T.Source.entry source.now) result.greatest result.missing }
+    ensures source { SourceAnswers (T.Entries.modulus source.now) (T.Entries.entry source.now) result.greatest result.missing }
     ensures restored { (Restores book.old file.now result.restored book.new) × (AcceptsExactly file.now result.restored) }
     ensures onward { (base : ℕ) (past : List Event) → Leads base past book.old → Leads base (restore file.now (is_ok result.restored) ∷ past) book.new }
 {

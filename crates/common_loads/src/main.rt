@@ -6,21 +6,20 @@ ghost use Rattle.common_loads.specs.Trios.{entries};
 ghost use Rattle.tables.specs.Tables.{entry_of};
 ghost use Rattle.tables.specs.Written.{written_lawful};
 
-use sources::{Meet, Pair, Unequal};
+use sources::{Meet, Pair};
 use std::io;
-use tables::{Refusal, Source, gaps, largest};
+use tables::{Entries, Refusal, Source, gaps, largest};
 
 /// The units 5, 8 and 12, with their table written out.
 #[derive(Clone, Copy)]
 struct Trio;
 
-impl Source for Trio {
+impl Entries for Trio {
     ghost modulus = { λ _. 5 };
 
     ghost entry = { λ _. entry_of entries };
 
-    // `refl` has the entries checked: each leaves its remainder, the first is 0, and they are few and small enough.
-    ghost lawful = { λ _. written_lawful entries refl };
+    ghost past = { λ _. (written_lawful entries refl).past };
 
     fn base(&self) -> u32 {
         5
@@ -38,33 +37,13 @@ impl Source for Trio {
     }
 }
 
-/// What ends the program early.
-#[derive(Debug, Drop)]
-enum Failure {
-    Refused(Refusal),
-    Unwritten(io::Error),
-}
-
-impl From<Refusal> for Failure {
-    fn from(reason: Refusal) -> Failure {
-        Failure::Refused(reason)
-    }
-}
-
-impl<A: Drop, B: Drop> From<Unequal<A, B>> for Failure {
-    fn from(unequal: Unequal<A, B>) -> Failure {
-        Failure::Refused(unequal.reason)
-    }
-}
-
-impl From<io::Error> for Failure {
-    fn from(e: io::Error) -> Failure {
-        Failure::Unwritten(e)
-    }
+impl Source for Trio {
+    // `refl` has the entries checked: each leaves its remainder, the first is 0, and they are few and small enough.
+    ghost lawful = { λ _. written_lawful entries refl };
 }
 
 /// Prints the entry at each remainder by the base.
-fn print_entries<S: Source>(rt: &impl Print, source: &S) -> io::Result<()> {
+fn print_entries<S: Entries>(rt: &impl Print, source: &S) -> io::Result<()> {
     let base = source.base();
     print!(rt; "  the least of each remainder by {base}:")?;
     for remainder in 0..base {
@@ -77,7 +56,7 @@ fn print_entries<S: Source>(rt: &impl Print, source: &S) -> io::Result<()> {
 }
 
 /// Prints what there is to know of the loads of a source.
-fn print_source<S: Source>(rt: &impl Print, label: &str, source: &S) -> Result<(), Failure> {
+fn print_source<S: Source>(rt: &impl Print, label: &str, source: &S) -> anyhow::Result<()> {
     println!(rt; "{label}:")?;
     print_entries(rt, source)?;
     let greatest = largest(source)?;
@@ -88,15 +67,15 @@ fn print_source<S: Source>(rt: &impl Print, label: &str, source: &S) -> Result<(
 }
 
 /// Prints two sources, and then their meet, to which both are lent.
-fn run(rt: &impl Print) -> Result<(), Failure> {
+fn run(rt: &impl Print) -> anyhow::Result<()> {
     let pair = Pair::new(5, 7)?;
     let trio = Trio;
     print_source(rt, "Loads of units 5 and 7", &pair)?;
     print_source(rt, "Loads of units 5, 8 and 12", &trio)?;
-    let common = Meet::new(&pair, &trio)?;
+    let common = Meet::new(&pair, &trio).map_err(Refusal::from)?;
     print_source(rt, "Loads of both", &common)
 }
 
-fn main(rt: HostRuntime) -> Result<(), Failure> {
+fn main(rt: HostRuntime) -> anyhow::Result<()> {
     run(&rt)
 }

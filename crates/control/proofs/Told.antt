@@ -6,7 +6,7 @@ use Rattle.files.specs.Fields.{be32}
 use Rattle.files.specs.Judged.{Rejects, TrueFile, malformed, untrue}
 use Rattle.files.specs.Layout.{file_row}
 use Rattle.files.specs.Making.{MakeFrom, accepted, refused}
-use Rattle.tables.proofs.Entries.{same_entry}
+use Rattle.tables.proofs.Present.{same_entry}
 use Rattle.tables.specs.Made.{Made, Refuses, too_large, too_short, unmade}
 use Rattle.tables.specs.Rows.{base_of}
 use Rattle.tables.specs.declared.refusals.Refusal.{Refusal}

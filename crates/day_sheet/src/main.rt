@@ -1,7 +1,6 @@
 //! The day sheet program: reads a sheet on standard input and prints what each of its lines answers.
 #![tactic(auto)]
 
-use anyhow::anyhow;
 use sheets::{LONGEST, answer_sheet};
 use std::io;
 use std::io::{Read, Write};
@@ -15,9 +14,7 @@ fn read_sheet(rt: &HostRuntime) -> io::Result<Vec<u8>> {
 
 fn run(rt: &HostRuntime) -> anyhow::Result<()> {
     let input = read_sheet(rt)?;
-    let Ok(out) = answer_sheet(rt.alloc(), input.as_slice()) else {
-        return Err(anyhow!("out of memory"));
-    };
+    let out = answer_sheet(rt.alloc(), input.as_slice())?;
     rt.stdout().write_all(out.as_bytes())?;
     Ok(())
 }

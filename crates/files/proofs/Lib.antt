@@ -6,7 +6,7 @@ pub mod Formed
 pub mod Ruled
 pub mod Verdict
 pub mod Again
-pub mod Viewed
 pub mod Spelt
 pub mod Fronts
 pub mod Back
+pub mod Stepped

@@ -4,7 +4,7 @@ use Rattle.tables.specs.Rules.{Closed, ReachedBySome, Rule}
 use Rattle.tables.specs.Steps.{back, step_at}
 use Rattle.tables.specs.Tables.{Within}
 use Rattle.tables.proofs.Back.{back_brings, back_is}
-use Rattle.tables.proofs.Entries.{same_entry}
+use Rattle.tables.proofs.Present.{same_entry}
 use Rattle.tables.proofs.Firsts.{Summed, adds_sum, sum_adds}
 use Rattle.tables.proofs.Tested.{among_first, first_among}
 use Rattle.files.specs.Layout.{file_base, file_entry, file_others, file_size, file_units}

@@ -9,6 +9,7 @@ mod making;
 mod reading;
 mod saving;
 mod stepping;
+mod unjudged;
 mod view;
 
 pub use judging::judge;

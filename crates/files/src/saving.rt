@@ -45,7 +45,7 @@ fn write_sizes<S: Showing>(source: &S, others: usize, out: &mut [u8])
 /// Writes the entry at each remainder below the base, from an offset on.
 fn write_entries<S: Showing>(source: &S, base: u32, at: usize, out: &mut [u8])
     requires { at + 4 * base ≤ length out.old }
-    ensures { out.new ≡ take at out.old ++ flat_map entry_bytes (entries_from (S.Source.entry source.now) 0 base) ++ drop (at + 4 * base) out.old }
+    ensures { out.new ≡ take at out.old ++ flat_map entry_bytes (entries_from (S.Entries.entry source.now) 0 base) ++ drop (at + 4 * base) out.old }
 {
     for remainder in 0..base {
         write32(
@@ -60,8 +60,8 @@ fn write_entries<S: Showing>(source: &S, base: u32, at: usize, out: &mut [u8])
 /// Later bytes stay as they are, and so does every byte where the memory is too short. The file is a true one that gives back
 /// the source's row and entries.
 pub fn save<S: Showing>(source: &S, out: &mut [u8]) -> Result<usize, Refusal>
-    ensures saves { Saves (S.Showing.row source.now) (S.Source.entry source.now) out.old result out.new }
-    ensures back { IfOk result (λ size. ReadsBack (S.Showing.row source.now) (S.Source.entry source.now) (take size out.new)) }
+    ensures saves { Saves (S.Showing.row source.now) (S.Entries.entry source.now) out.old result out.new }
+    ensures back { IfOk result (λ size. ReadsBack (S.Showing.row source.now) (S.Entries.entry source.now) (take size out.new)) }
 {
     let units = source.units();
     let base = source.base();

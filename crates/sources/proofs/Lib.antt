@@ -1,5 +1,3 @@
 pub mod Euclid
-pub mod PairRows
-pub mod PairIs
 pub mod PairSteps
 pub mod MeetLoads

@@ -2,7 +2,7 @@
 use Rattle.std.proofs.Common.{◌≡◌, ℕ, ◌%◌, ◌≤◌, max, Bool, cond, Some, None, Option, sym, refl, ap, ◌∙◌, subst, arith}
 use Rattle.std.proofs.lemmas.Bool.{eq-eqb}
 use Rattle.sources.specs.Meets.{Meets, later, met}
-use Rattle.tables.proofs.Entries.{not_both}
+use Rattle.tables.proofs.Present.{not_both}
 use Rattle.tables.specs.Tables.{Contains}
 
 -- both entries are present and at most the load

@@ -4,3 +4,6 @@ pub mod PairLaws
 pub mod NewPairs
 pub mod Meets
 pub mod MeetLaws
+pub mod PairRows
+pub mod PairIs
+pub mod PairShowing

@@ -33,3 +33,10 @@ module _ (m n : ℕ) (first second : ℕ → Option ℕ) (p : Lawful m first) (q
 
   pub met_lawful : Lawful m (met m n first second)
   met_lawful = by_test (m == n) (eqb-true m n)
+
+pub met_past : (m n : ℕ) (first second : ℕ → Option ℕ) → ((r : ℕ) → m ≤ r → first r ≡ None) → (r : ℕ) → m ≤ r → met m n first second r ≡ None
+met_past m n first second past r h = by_test (m == n)
+  where
+    by_test : (b : Bool) → cond b (later (first r) (second r)) (first r) ≡ None
+    by_test true = rw (past r h) refl
+    by_test false = past r h

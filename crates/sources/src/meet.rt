@@ -1,10 +1,10 @@
 //! Meets: what two table sources have in common.
 
 ghost use Rattle.std.specs.Prelude.{◌≡◌, MatchResult};
-ghost use Rattle.sources.specs.MeetLaws.{met_lawful};
+ghost use Rattle.sources.specs.MeetLaws.{met_lawful, met_past};
 ghost use Rattle.sources.specs.Meets.{Meets, Unmet, met};
 
-use tables::{Refusal, Source};
+use tables::{Entries, Refusal, Source};
 
 /// Two table sources, lent or handed over. At equal bases it is the table source of the loads that both contain; at other
 /// bases, which `Meet::new` refuses, it is the first source alone.
@@ -27,9 +27,9 @@ impl<A: Source, B: Source> Meet<A, B> {
     pub fn new(first: A, second: B) -> Result<Meet<A, B>, Unequal<A, B>>
         ensures { MatchResult result
             (λ meet. (meet.first ≡ first) × (meet.second ≡ second)
-            × Meets (A.Source.modulus first) (B.Source.modulus second) (A.Source.entry first) (B.Source.entry second))
+            × Meets (A.Entries.modulus first) (B.Entries.modulus second) (A.Entries.entry first) (B.Entries.entry second))
             (λ back. (back.first ≡ first) × (back.second ≡ second)
-            × Unmet (A.Source.modulus first) (B.Source.modulus second) back.reason) }
+            × Unmet (A.Entries.modulus first) (B.Entries.modulus second) back.reason) }
     {
         let base = second.base();
         if first.base() == base {
@@ -44,17 +44,17 @@ impl<A: Source, B: Source> Meet<A, B> {
     }
 }
 
-impl<A: Source, B: Source> Source for Meet<A, B> {
-    ghost modulus = { λ s. A.Source.modulus s.first };
+impl<A: Source, B: Source> Entries for Meet<A, B> {
+    ghost modulus = { λ s. A.Entries.modulus s.first };
 
     ghost entry = { λ s. met
-        (A.Source.modulus s.first) (B.Source.modulus s.second)
-        (A.Source.entry s.first) (B.Source.entry s.second) };
+        (A.Entries.modulus s.first) (B.Entries.modulus s.second)
+        (A.Entries.entry s.first) (B.Entries.entry s.second) };
 
-    ghost lawful = { λ s. met_lawful
-        (A.Source.modulus s.first) (B.Source.modulus s.second)
-        (A.Source.entry s.first) (B.Source.entry s.second)
-        (A.Source.lawful s.first) (B.Source.lawful s.second) };
+    ghost past = { λ s. met_past
+        (A.Entries.modulus s.first) (B.Entries.modulus s.second)
+        (A.Entries.entry s.first) (B.Entries.entry s.second)
+        (A.Entries.past s.first) };
 
     fn base(&self) -> u32 {
         self.first.base()
@@ -70,6 +70,13 @@ impl<A: Source, B: Source> Source for Meet<A, B> {
             _ => None,
         }
     }
+}
+
+impl<A: Source, B: Source> Source for Meet<A, B> {
+    ghost lawful = { λ s. met_lawful
+        (A.Entries.modulus s.first) (B.Entries.modulus s.second)
+        (A.Entries.entry s.first) (B.Entries.entry s.second)
+        (A.Source.lawful s.first) (B.Source.lawful s.second) };
 }
 
 /// A meet that is refused lets both sources go where `?` hands the reason on.

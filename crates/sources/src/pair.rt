@@ -5,12 +5,12 @@ mod stored;
 
 ghost use Rattle.std.specs.Prelude.{◌≡◌, MatchResult};
 ghost use Rattle.sources.specs.NewPairs.{InRange, New, pair_entry};
-ghost use Rattle.sources.specs.PairLaws.{paired_lawful};
+ghost use Rattle.sources.specs.PairLaws.{entry_past, paired_lawful};
 ghost use Rattle.tables.specs.declared.refusals.Refusal.TheVariants.{OutOfRange};
 
 use crate::divisors::solve;
 pub use stored::Pair;
-use tables::{Refusal, Source};
+use tables::{Entries, Refusal, Source};
 
 /// Refuses a size that is not 1 up to a limit.
 fn check_range(size: u32, limit: u32) -> Result<(), Refusal>
@@ -18,7 +18,7 @@ fn check_range(size: u32, limit: u32) -> Result<(), Refusal>
         (λ _. InRange limit size)
         (λ reason. (reason ≡ OutOfRange size) × (InRange limit size → ⊥)) }
 {
-    if size == 0 || size > limit {
+    if !(1..=limit).contains(&size) {
         return Err(Refusal::OutOfRange(size));
     }
     Ok(())
@@ -47,12 +47,12 @@ impl Pair {
     }
 }
 
-impl Source for Pair {
+impl Entries for Pair {
     ghost modulus = { λ s. s.base };
 
     ghost entry = { pair_entry };
 
-    ghost lawful = { λ s. paired_lawful s.base s.other s.inverse s.inverts s.low s.high s.fits };
+    ghost past = { λ s. entry_past s.base s.other s.inverse s.inverts };
 
     fn base(&self) -> u32 {
         self.base
@@ -65,4 +65,8 @@ impl Source for Pair {
         let turns = remainder * self.inverse % self.base;
         Some(turns * self.other)
     }
+}
+
+impl Source for Pair {
+    ghost lawful = { λ s. paired_lawful s.base s.other s.inverse s.inverts s.low s.high s.fits };
 }

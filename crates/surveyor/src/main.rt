@@ -1,7 +1,6 @@
 //! Gives a book a past, surveys it beside a pair of units, and prints what the survey finds.
 #![tactic(auto)]
 
-use anyhow::anyhow;
 use books::{Book, Findings, survey};
 use sources::Pair;
 use std::io;
@@ -44,9 +43,8 @@ fn print_findings(rt: &HostRuntime, found: &Findings) -> io::Result<()> {
 }
 
 fn run(rt: &HostRuntime) -> anyhow::Result<()> {
-    let (Ok(mut book), Ok(pair)) = (book_with_past(rt), Pair::new(5, 7)) else {
-        return Err(anyhow!("a call was refused"));
-    };
+    let mut book = book_with_past(rt)?;
+    let pair = Pair::new(5, 7)?;
     let mut numbers = [0; 2];
     let mut places = [0; 2];
     let found = survey(

@@ -5,7 +5,7 @@ use Rattle.std.proofs.lemmas.Bool.{cases_lt, lt-ltb, le-ltb}
 use Rattle.tables.specs.Rows.{Table}
 use Rattle.tables.specs.Rules.{ReachedBySome, Rules}
 use Rattle.tables.proofs.Certificate.{complete}
-use Rattle.tables.proofs.Entries.{same_entry}
+use Rattle.tables.proofs.Present.{same_entry}
 
 -- whether an entry is present and below a bound, as 1 or 0
 abbrev under : Option ℕ → ℕ → ℕ

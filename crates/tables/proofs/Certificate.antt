@@ -5,7 +5,7 @@ use Rattle.std.proofs.lemmas.Bool.{cases_lt}
 use Rattle.tables.specs.Rows.{total, Makes, Least, Table}
 use Rattle.tables.specs.Rules.{ReachedBySome, Rules, Certificate}
 use Rattle.tables.specs.Tables.{Within}
-use Rattle.tables.proofs.Entries.{entry_cases, same_entry, not_both}
+use Rattle.tables.proofs.Present.{entry_cases, same_entry, not_both}
 use Rattle.tables.proofs.Leasts.{Lighter, least_entry, lighter}
 use Rattle.tables.proofs.Makeable.{kept, makes_none, makes_more}
 

@@ -5,7 +5,7 @@ use Rattle.std.proofs.lemmas.List.{length_push, get_or_push, get_or_append_left}
 use Rattle.std.proofs.lemmas.Bool.{cases_lt, cases_Bool, lt-ltb, le-ltb, ltb-true, cond-true, cond-false, both_ways}
 use Rattle.tables.specs.Missing.{MissingCount}
 use Rattle.tables.specs.Tables.{Lawful, Within, Contains}
-use Rattle.tables.proofs.Entries.{base_apart}
+use Rattle.tables.proofs.Present.{base_apart}
 use Rattle.tables.proofs.Sums.{sums, sums_same, sums_none, sums_plus, sums_split, sums_each}
 
 -- the numbers below n that pass a test, in ascending order

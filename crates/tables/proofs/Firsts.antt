@@ -6,7 +6,7 @@ use Rattle.std.proofs.lemmas.Bool.{cases_Bool, cond-true, cond-false, both_ways,
 use Rattle.tables.specs.Rows.{Row, Least, Table, base_of}
 use Rattle.tables.specs.Steps.{back, is_sum, steps, first_step, step_at, Leads, FirstLeads}
 use Rattle.tables.proofs.Back.{back_is, back_brings}
-use Rattle.tables.proofs.Entries.{entry_cases, same_entry, not_both}
+use Rattle.tables.proofs.Present.{entry_cases, same_entry, not_both}
 use Rattle.tables.proofs.Leasts.{base_some, least_entry, lighter, Lighter}
 use Rattle.tables.proofs.Makeable.{makes_none}
 

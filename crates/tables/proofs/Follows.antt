@@ -7,7 +7,7 @@ use Rattle.std.specs.List.{slice_get}
 use Rattle.tables.specs.Made.{one_more, Followed, done, next}
 use Rattle.tables.specs.Rows.{total, Row, Table, base_of}
 use Rattle.tables.specs.Steps.{Leads, Step, step_at}
-use Rattle.tables.proofs.Entries.{same_entry, not_both}
+use Rattle.tables.proofs.Present.{same_entry, not_both}
 use Rattle.tables.proofs.Counts.{plus, plus_none_left, plus_none_right, plus_more, get_or_more_le, total_none, total_more}
 use Rattle.tables.proofs.Firsts.{EntryStep, entry_zero, step_some, step_none}
 use Rattle.tables.proofs.Leasts.{base_some, least_entry}

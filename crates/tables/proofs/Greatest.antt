@@ -5,7 +5,7 @@ use Rattle.std.proofs.lemmas.Int.{ints}
 use Rattle.std.proofs.lemmas.Bool.{cases_lt}
 use Rattle.tables.specs.Missing.{Holds, GreatestMissing}
 use Rattle.tables.specs.Tables.{Lawful, Within, Contains}
-use Rattle.tables.proofs.Entries.{same_entry, base_apart}
+use Rattle.tables.proofs.Present.{same_entry, base_apart}
 
 -- top is the highest of the first count entries, all present
 pub record Highest (entry : ℕ → Option ℕ) (count top : ℕ) : Type 0 where

@@ -3,7 +3,7 @@ use Rattle.std.proofs.Common.{◌≡◌, ℕ, zero, suc, ◌+◌, ◌%◌, ◌<�
 use native.Mathlib.Nat.{zero-mod, mod-add-mod, add-mod_right}
 use Rattle.std.proofs.lemmas.Bool.{cases_lt}
 use Rattle.tables.specs.Rows.{Makes, Row, Least, Table, base_of}
-use Rattle.tables.proofs.Entries.{entry_cases}
+use Rattle.tables.proofs.Present.{entry_cases}
 use Rattle.tables.proofs.Makeable.{makes_more, makes_fewer, Fewer}
 
 -- the base is a unit, so it is not 0

@@ -1,4 +1,4 @@
-pub mod Entries
+pub mod Present
 pub mod Greatest
 pub mod Sums
 pub mod Counted

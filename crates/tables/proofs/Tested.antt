@@ -5,10 +5,12 @@ use Rattle.std.proofs.lemmas.Bool.{cases_lt, cases_Bool, leb-true, le-leb, cond-
 use Rattle.tables.specs.Rows.{Table}
 use Rattle.tables.specs.Rules.{ReachedBySome, Rules}
 use Rattle.tables.specs.Tables.{Within}
-use Rattle.tables.specs.Steps.{back, steps, first_step}
+use Rattle.std.specs.List.{AllWithin, HoldsAt}
+use Rattle.std.specs.Option.{MatchOption, option_map}
+use Rattle.tables.specs.Steps.{back, steps, first_step, step_at}
 use Rattle.tables.specs.Tests.{Leaves, AllClosed, AllStepped, at_most_sum}
 use Rattle.tables.proofs.Certificate.{sound}
-use Rattle.tables.proofs.Entries.{same_entry, not_both}
+use Rattle.tables.proofs.Present.{same_entry, not_both}
 use Rattle.tables.proofs.Firsts.{Summed, sum_adds, adds_sum}
 use Rattle.tables.proofs.Back.{back_is, back_brings}
 
@@ -69,6 +71,43 @@ module _ (m : ℕ) (entry : ℕ → Option ℕ) (r : ℕ) where
     first_on s =
         at_drop_more (first_step m entry r position) units i 0 h
         ∙ cond-false (steps m entry r (get_or units i 0)) (Some position) (first_step m entry r (position + 1) (drop (i + 1) units)) s
+
+-- the step, where the first of the other units that steps up is told by its position in the row
+module _ (m : ℕ) (entry : ℕ → Option ℕ) (r : ℕ) where
+  none_steps : (position : ℕ) (units : List ℕ) → ((k : ℕ) → k < length units → steps m entry r (get_or units k 0) ≡ false) → first_step m entry r position units ≡ None
+  none_steps position [] none = refl
+  none_steps position (g ∷ units) none =
+      cond-false (steps m entry r g) (Some position) (first_step m entry r (position + 1) units) (none 0 (omega arith))
+      ∙ none_steps (position + 1) units (λ k h. none (suc k) (omega arith))
+
+  some_steps : (position : ℕ) (units : List ℕ) (i : ℕ) → i < length units → steps m entry r (get_or units i 0) ≡ true → ((k : ℕ) → k < i → steps m entry r (get_or units k 0) ≡ false) → first_step m entry r position units ≡ Some (position + i)
+  some_steps position [] i inside here before = absurd (omega arith)
+  some_steps position (g ∷ units) zero inside here before =
+      cond-true (steps m entry r g) (Some position) (first_step m entry r (position + 1) units) here ∙ ap Some (let e : position ≡ position + 0 = omega arith in e)
+  some_steps position (g ∷ units) (suc i) inside here before =
+      cond-false (steps m entry r g) (Some position) (first_step m entry r (position + 1) units) (before 0 (omega arith))
+      ∙ some_steps (position + 1) units i (omega arith) here (λ k h. before (suc k) (omega arith))
+      ∙ ap Some (let e : position + 1 + i ≡ position + suc i = omega arith in e)
+
+  pub step_by_position : (units : List ℕ) (o : Option ℕ)
+      → MatchOption o
+      ((k : ℕ) → k < length units → steps m entry r (get_or units k 0) ≡ false)
+      (λ position. (1 ≤ position) × ((position ≤ length units) × ((steps m entry r (get_or units (position - 1) 0) ≡ true) × ((k : ℕ) → k < position - 1 → steps m entry r (get_or units k 0) ≡ false))))
+      → o ≡ step_at (m ∷ units) entry r
+  step_by_position units None none = sym (none_steps 1 units none)
+  step_by_position units (Some position) first =
+      ap Some (let e : position ≡ 1 + (position - 1) = omega arith in e)
+      ∙ sym (some_steps 1 units (position - 1) (omega arith) first.1.1.0 first.1.1.1)
+
+  -- the same by its place among the others
+  pub step_by_place : (units : List ℕ) (o : Option ℕ)
+      → MatchOption o
+      (AllWithin (λ g. steps m entry r g ≡ false) units 0 (length units))
+      (λ i. (i < length units) × HoldsAt (λ g. steps m entry r g ≡ true) units i × AllWithin (λ g. steps m entry r g ≡ false) units 0 i)
+      → option_map (λ i. i + 1) o ≡ step_at (m ∷ units) entry r
+  step_by_place units None none = sym (none_steps 1 units (λ k h. none k 0 (omega arith) h))
+  step_by_place units (Some i) first =
+      ap Some (let e : i + 1 ≡ 1 + i = omega arith in e) ∙ sym (some_steps 1 units i first.0 (first.1 0) (λ k h. first.2 k 0 (omega arith) h))
 
 -- the rules from the tests
 module _ (m : ℕ) (others : List ℕ) (entry : ℕ → Option ℕ) (some : 1 ≤ m) where

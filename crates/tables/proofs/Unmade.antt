@@ -6,7 +6,7 @@ use Rattle.tables.specs.Missing.{Holds, GreatestMissing, MissingCount, MissingAb
 use Rattle.tables.specs.Rows.{Makes, Least, Table, Row, base_of}
 use Rattle.tables.specs.Tables.{Lawful, Contains}
 use Rattle.tables.specs.Unmade.{RowUnending}
-use Rattle.tables.proofs.Entries.{entry_cases}
+use Rattle.tables.proofs.Present.{entry_cases}
 use Rattle.tables.proofs.Makeable.{makes_more}
 
 -- what is left of a load over another of its remainder is a number of bases

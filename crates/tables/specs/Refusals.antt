@@ -1,5 +1,5 @@
--- The number and the place of each refusal. Want of memory has neither.
-use Rattle.std.specs.Prelude.{ℕ, Some, None, Option}
+-- The number, the place and the sentence of each refusal. Want of memory has neither of the first two.
+use Rattle.std.specs.Prelude.{ℕ, List, ◌++◌, Some, None, Option, codes, decimal}
 use Rattle.tables.specs.declared.refusals.Refusal.{Refusal}
 use Rattle.tables.specs.declared.refusals.Refusal.TheVariants.{OutOfRange, AlreadyAdmitted, RowFull, NotAdmitted, IsBase, Unmakeable, Endless, NoRoom, LoadTooLarge, Malformed, Untrue, CommonDivisor, BasesDiffer, ListFull, Unreadable, NoBook, NoMemory}
 
@@ -40,3 +40,23 @@ place_of (ListFull capacity) = Some capacity
 place_of (Unreadable column) = Some column
 place_of NoBook = Some 0
 place_of NoMemory = None
+
+-- the sentence that is printed of a refusal for a person
+abbrev pub sentence_of : Refusal → List ℕ
+sentence_of (OutOfRange value) = decimal value ++ codes " is out of range"
+sentence_of (AlreadyAdmitted size) = decimal size ++ codes " is in the row already"
+sentence_of RowFull = codes "sixteen units are in the row"
+sentence_of (NotAdmitted size) = decimal size ++ codes " is not in the row"
+sentence_of (IsBase size) = decimal size ++ codes " is the base"
+sentence_of (Unmakeable remainder) = codes "the row does not make the load, which leaves " ++ decimal remainder
+sentence_of (Endless remainder) = codes "no load that leaves " ++ decimal remainder ++ codes " is made"
+sentence_of (NoRoom places) = decimal places ++ codes " places are needed or allowed"
+sentence_of LoadTooLarge = codes "the load is above 1000000000"
+sentence_of (Malformed offset) = codes "the file breaks at offset " ++ decimal offset
+sentence_of (Untrue remainder) = codes "the table is not the true one at remainder " ++ decimal remainder
+sentence_of (CommonDivisor divisor) = decimal divisor ++ codes " divides both sizes"
+sentence_of (BasesDiffer base) = codes "the second base is another, " ++ decimal base
+sentence_of (ListFull capacity) = codes "all " ++ decimal capacity ++ codes " places of the waiting list are in use"
+sentence_of (Unreadable column) = codes "no readable line goes on at column " ++ decimal column
+sentence_of NoBook = codes "no book has been opened"
+sentence_of NoMemory = codes "out of memory"

@@ -1,5 +1,6 @@
 -- Steps: the unit by which the entry at a remainder is reached from another entry.
-use Rattle.std.specs.Prelude.{◌≡◌, ℕ, ◌+◌, ◌-◌, ◌%◌, ◌<◌, ◌≤◌, Bool, false, cond, List, [], ◌∷◌, length, drop, Some, None, Option, ◌==◌, slice_index}
+use Rattle.std.specs.Prelude.{◌≡◌, ℕ, ◌+◌, ◌-◌, ◌%◌, ◌<◌, ◌≤◌, Bool, false, List, length, drop, Some, None, Option, ◌==◌, slice_index}
+use Rattle.std.specs.List.{position_from}
 use Rattle.tables.specs.Rows.{Least, base_of}
 
 -- (r − g) mod m: the remainder from which a unit of size g leads to r.
@@ -18,8 +19,7 @@ steps m entry r g = is_sum (entry r) (entry (back m g r)) g
 
 -- The position of the first of the units that steps to r, where the first of them stands at this position.
 abbrev pub first_step : ℕ → (ℕ → Option ℕ) → ℕ → ℕ → List ℕ → Option ℕ
-first_step m entry r position [] = None
-first_step m entry r position (g ∷ units) = cond (steps m entry r g) (Some position) (first_step m entry r (position + 1) units)
+first_step m entry r position units = position_from (steps m entry r) position units
 
 -- The step at r: the position in the row of the smallest unit other than the base that steps to r. The others ascend, so it is the first.
 -- There is none at 0 and where the entry is absent.

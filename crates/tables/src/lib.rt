@@ -7,10 +7,12 @@ mod refusals;
 mod rules;
 mod showing;
 mod sources;
+mod stepping;
 
 pub use making::make;
 pub use missing::{gaps, largest};
 pub use refusals::Refusal;
 pub use rules::certificate_holds;
 pub use showing::Showing;
-pub use sources::Source;
+pub use sources::{Entries, Source};
+pub use stepping::steps_up;

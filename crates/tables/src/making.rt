@@ -2,7 +2,7 @@
 
 ghost use Rattle.std.specs.Prelude.{◌≡◌, ◌%◌, length, Some, slice_index};
 ghost use Rattle.tables.specs.Made.{Followed, Make};
-ghost use Rattle.tables.specs.Rows.{total, Row, Table, base_of};
+ghost use Rattle.tables.specs.Rows.{total};
 
 use crate::refusals::Refusal;
 use crate::showing::Showing;
@@ -11,18 +11,15 @@ use crate::showing::Showing;
 const GREATEST: u64 = 1_000_000_000;
 
 /// Counts the units by which the steps lead from an entry down to 0.
-fn follow<S: Showing>(source: &S, base: u32, entry: u32, counts: &mut [u32])
-    requires divides { base ≡ S.Source.modulus source.now }
-    requires ordered { Row (S.Showing.row source.now) }
-    requires based { base_of (S.Showing.row source.now) ≡ S.Source.modulus source.now }
-    requires table { Table (S.Showing.row source.now) (S.Source.entry source.now) }
-    requires present { S.Source.entry source.now (entry % base) ≡ Some entry }
+fn follow<S: Showing>(source: &S, entry: u32, counts: &mut [u32])
+    requires present { S.Entries.entry source.now (entry % S.Entries.modulus source.now) ≡ Some entry }
     requires places { length counts.old ≡ length (S.Showing.row source.now) }
-    ensures followed { Followed (S.Showing.row source.now) (entry % base) counts.new }
+    ensures followed { Followed (S.Showing.row source.now) (entry % S.Entries.modulus source.now) counts.new }
     ensures adds { total (S.Showing.row source.now) counts.new ≡ entry }
     ensures first { slice_index counts.new 0 ≡ 0 }
 {
     counts.fill(0);
+    let base = source.base();
     let mut rest = entry;
     while let Some(position) = source.step(rest % base) {
         counts[position] += 1;
@@ -42,15 +39,14 @@ pub fn make<S: Showing>(source: &S, load: u64, numbers: &mut [u32]) -> Result<us
     if numbers.len() < units {
         return Err(Refusal::NoRoom(units));
     }
-    let base = source.base();
-    let remainder = (load % u64::from(base)) as u32;
-    let Some(entry) = source.least(remainder) else {
-        return Err(Refusal::Unmakeable(remainder));
+    let base = u64::from(source.base());
+    let remainder = (load % base) as u32;
+    let entry = match source.least(remainder) {
+        Some(entry) if u64::from(entry) <= load => entry,
+        _ => return Err(Refusal::Unmakeable(remainder)),
     };
-    if load < u64::from(entry) {
-        return Err(Refusal::Unmakeable(remainder));
-    }
-    follow(source, base, entry, &mut numbers[0..units]);
-    numbers[0] = ((load - u64::from(entry)) / u64::from(base)) as u32;
+    let numbers = &mut numbers[..units];
+    follow(source, entry, numbers);
+    numbers[0] = ((load - u64::from(entry)) / base) as u32;
     Ok(units)
 }

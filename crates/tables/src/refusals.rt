@@ -1,10 +1,11 @@
 //! Why a call is refused: one case for each reason, with the value that its place is made of.
 
-ghost use Rattle.std.specs.Prelude.{◌≡◌};
-ghost use Rattle.tables.specs.Refusals.{number_of, place_of};
+ghost use Rattle.std.specs.Prelude.{◌≡◌, Some};
+ghost use Rattle.tables.specs.Refusals.{number_of, place_of, sentence_of};
 ghost use Rattle.tables.specs.declared.refusals.Refusal.TheVariants.{NoMemory};
 
 use std::alloc::AllocError;
+use std::error::Error;
 use std::fmt;
 
 /// Why a call is refused. Each reason but the last has a number and a place.
@@ -77,26 +78,63 @@ impl Refusal {
         ensures { result ≡ place_of self }
     {
         match self {
-            Refusal::OutOfRange(value) => Some(u64::from(value)),
-            Refusal::AlreadyAdmitted(size) => Some(u64::from(size)),
-            Refusal::RowFull => Some(16),
-            Refusal::NotAdmitted(size) => Some(u64::from(size)),
-            Refusal::IsBase(size) => Some(u64::from(size)),
-            Refusal::Unmakeable(remainder) => Some(u64::from(remainder)),
-            Refusal::Endless(remainder) => Some(u64::from(remainder)),
-            Refusal::NoRoom(places) => Some(places as u64),
-            Refusal::LoadTooLarge => Some(1_000_000_000),
-            Refusal::Malformed(offset) => Some(offset as u64),
-            Refusal::Untrue(remainder) => Some(u64::from(remainder)),
-            Refusal::CommonDivisor(divisor) => Some(u64::from(divisor)),
-            Refusal::BasesDiffer(base) => Some(u64::from(base)),
-            Refusal::ListFull(capacity) => Some(capacity as u64),
+            Refusal::OutOfRange(number)
+            | Refusal::AlreadyAdmitted(number)
+            | Refusal::NotAdmitted(number)
+            | Refusal::IsBase(number)
+            | Refusal::Unmakeable(number)
+            | Refusal::Endless(number)
+            | Refusal::Untrue(number)
+            | Refusal::CommonDivisor(number)
+            | Refusal::BasesDiffer(number) => Some(u64::from(number)),
+            Refusal::NoRoom(places) | Refusal::ListFull(places) => Some(places as u64),
+            Refusal::Malformed(place) => Some(place as u64),
             Refusal::Unreadable(column) => Some(column as u64),
+            Refusal::RowFull => Some(16),
+            Refusal::LoadTooLarge => Some(1_000_000_000),
             Refusal::NoBook => Some(0),
             Refusal::NoMemory => None,
         }
     }
 }
+
+/// A sentence for a person; a day sheet prints the number and the place in its stead.
+impl fmt::Display for Refusal {
+    ghost output = { λ reason. Some (sentence_of reason) };
+
+    fn fmt<W: fmt::Write>(&self, f: &mut fmt::Formatter<W>) -> fmt::Result {
+        match *self {
+            Refusal::OutOfRange(value) => write!(f, "{value} is out of range"),
+            Refusal::AlreadyAdmitted(size) => write!(f, "{size} is in the row already"),
+            Refusal::RowFull => write!(f, "sixteen units are in the row"),
+            Refusal::NotAdmitted(size) => write!(f, "{size} is not in the row"),
+            Refusal::IsBase(size) => write!(f, "{size} is the base"),
+            Refusal::Unmakeable(remainder) => write!(
+                f,
+                "the row does not make the load, which leaves {remainder}"
+            ),
+            Refusal::Endless(remainder) => write!(f, "no load that leaves {remainder} is made"),
+            Refusal::NoRoom(places) => write!(f, "{places} places are needed or allowed"),
+            Refusal::LoadTooLarge => write!(f, "the load is above 1000000000"),
+            Refusal::Malformed(offset) => write!(f, "the file breaks at offset {offset}"),
+            Refusal::Untrue(remainder) => write!(
+                f,
+                "the table is not the true one at remainder {remainder}"
+            ),
+            Refusal::CommonDivisor(divisor) => write!(f, "{divisor} divides both sizes"),
+            Refusal::BasesDiffer(base) => write!(f, "the second base is another, {base}"),
+            Refusal::ListFull(capacity) => write!(
+                f,
+                "all {capacity} places of the waiting list are in use"
+            ),
+            Refusal::Unreadable(column) => write!(f, "no readable line goes on at column {column}"),
+            Refusal::NoBook => write!(f, "no book has been opened"),
+            Refusal::NoMemory => write!(f, "out of memory"),
+        }
+    }
+}
+
+impl Error for Refusal {}
 
 impl From<AllocError> for Refusal {
     ghost from_gives = { λ _ r. r ≡ NoMemory };

@@ -1,20 +1,17 @@
 //! Table sources: a base, and for each remainder by it the least load of that remainder.
 
-ghost use Rattle.std.specs.Prelude.{◌≡◌, ℕ, Option};
+ghost use Rattle.std.specs.Prelude.{◌≡◌, ◌≤◌, ℕ, None, Option};
 ghost use Rattle.tables.specs.Tables.{Lawful};
 
-/// A table source: a base and, for each remainder by it, the least load of that remainder, if there is one.
+/// Entries by remainder: a base and, for each remainder by it, a load, if there is one. Nothing is promised of them yet: the
+/// entries of a file that has not been judged are of this kind.
 ///
-/// What a source means is told by its ghost members: `modulus` is the base, `entry` has the entry at each remainder, and
-/// `lawful` is the proof that every value of the type keeps the sentences of a source (see `Lawful`). Whoever adds a
-/// source gives these three, and shows that `base` and `least` answer what they say. The two questions alter nothing and
-/// are never refused, so that whatever reads a source needs only these promises.
-pub trait Source {
+/// The ghost members tell what the two questions answer: `modulus` is the base, and `entry` has the entry at each remainder.
+/// The questions alter nothing and are never refused, so that whatever reads entries needs only these promises.
+pub trait Entries {
     ghost modulus: { Self → ℕ };
 
     ghost entry: { Self → ℕ → Option ℕ };
-
-    ghost lawful: { (s : Self) → Lawful (modulus s) (entry s) };
 
     /// The base.
     fn base(&self) -> u32
@@ -23,15 +20,25 @@ pub trait Source {
     /// The entry at a remainder: none where it is absent, and from the base on.
     fn least(&self, remainder: u32) -> Option<u32>
         ensures { result ≡ entry self.now remainder };
+
+    ghost past: { (e : Self) (r : ℕ) → modulus e ≤ r → entry e r ≡ None };
 }
 
-/// A source that is lent is a source.
-impl<S: Source> Source for &S {
-    ghost modulus = { λ s. S.Source.modulus s.now };
+/// A table source: entries of which each is the least load of its remainder.
+///
+/// The law is that every value of the type keeps the sentences of a source (see `Lawful`). Whoever adds a source gives its
+/// entries, and shows it.
+pub trait Source: Entries {
+    ghost lawful: { (s : Self) → Lawful (Self.Entries.modulus s) (Self.Entries.entry s) };
+}
 
-    ghost entry = { λ s. S.Source.entry s.now };
+/// Entries that are lent are entries.
+impl<E: Entries> Entries for &E {
+    ghost modulus = { λ e. E.Entries.modulus e.now };
 
-    ghost lawful = { λ s. S.Source.lawful s.now };
+    ghost entry = { λ e. E.Entries.entry e.now };
+
+    ghost past = { λ e. E.Entries.past e.now };
 
     fn base(&self) -> u32 {
         (**self).base()
@@ -40,4 +47,9 @@ impl<S: Source> Source for &S {
     fn least(&self, remainder: u32) -> Option<u32> {
         (**self).least(remainder)
     }
+}
+
+/// A source that is lent is a source.
+impl<S: Source> Source for &S {
+    ghost lawful = { λ s. S.Source.lawful s.now };
 }

@@ -1,35 +1,19 @@
 //! Books with other units: their entries, what is read from them, and how loads are made.
 
+use crate::checks::{book_of, check_entries};
 use crate::sample::Sample;
 use books::Book;
 use sources::Pair;
-use std::alloc::Global;
 use std::process::Abort;
 use std::test::Fail;
-use tables::{Refusal, Showing, Source, make};
-
-/// A book of a base and two other units.
-fn book_of(heap: Global, base: u32, others: [u32; 2]) -> Result<Book, Refusal> {
-    let mut book = Book::open(heap, base)?;
-    for size in others {
-        book.admit(size)?;
-    }
-    Ok(book)
-}
-
-/// Checks that the entries by the base 5 are these.
-fn check_entries<S: Source>(rt: &impl Abort, source: &S, entries: [u32; 5]) {
-    for remainder in 0..5 {
-        assert_eq!(rt; source.least(remainder), Some(entries[remainder as usize]));
-    }
-    assert_eq!(rt; source.least(5), None);
-}
+use tables::{Entries, Refusal, Showing, make};
 
 /// Checks how a load is made of three units, with a fourth place that stays as it is.
 fn check_made<S: Showing>(rt: &impl Abort, source: &S, load: u64, numbers: [u32; 3]) {
     let mut places = [7; 4];
     assert_eq!(rt; make(source, load, &mut places), Ok(3));
-    assert_eq!(rt; places, [numbers[0], numbers[1], numbers[2], 7]);
+    let [first, second, third] = numbers;
+    assert_eq!(rt; places, [first, second, third, 7]);
 }
 
 /// Checks why a load is not made, and that all places stay as they are.

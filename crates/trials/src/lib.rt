@@ -4,6 +4,8 @@
 #[cfg(test)]
 mod admitting;
 #[cfg(test)]
+mod checks;
+#[cfg(test)]
 mod day_sheets;
 #[cfg(test)]
 mod lists;

@@ -2,7 +2,7 @@
 
 use books::Book;
 use std::test::Fail;
-use tables::{Refusal, Source, gaps, largest};
+use tables::{Entries, Refusal, gaps, largest};
 
 #[test]
 fn a_base_alone(rt: HostRuntime) -> Result<(), Fail> {

@@ -1,19 +1,10 @@
 //! Pairs and meets on small numbers.
 
+use crate::checks::check_entries;
 use crate::sample::Sample;
 use sources::{Meet, Pair};
-use std::process::Abort;
 use std::test::Fail;
-use tables::{Refusal, Source, gaps, largest};
-
-/// Checks that the entries by the base 5 are these.
-fn check_entries<S: Source>(rt: &impl Abort, source: &S, entries: [u32; 5]) {
-    assert_eq!(rt; source.base(), 5);
-    for remainder in 0..5 {
-        assert_eq!(rt; source.least(remainder), Some(entries[remainder as usize]));
-    }
-    assert_eq!(rt; source.least(5), None);
-}
+use tables::{Entries, Refusal, Source, gaps, largest};
 
 /// The meet of two sources, which are let go where it is refused.
 fn meet_of<A: Source + Drop, B: Source + Drop>(first: A, second: B) -> Result<Meet<A, B>, Refusal> {

@@ -1,16 +1,15 @@
 //! Books with a past: saved, restored, and surveyed.
 
+use crate::checks::book_of;
 use crate::sample::Sample;
 use books::{Book, survey};
 use sources::Pair;
 use std::test::Fail;
-use tables::{Refusal, Showing, Source};
+use tables::{Entries, Refusal, Showing};
 
 #[test]
 fn a_book_comes_back_from_its_file(rt: HostRuntime) -> Result<(), Fail> {
-    let mut book = Book::open(rt.alloc(), 5)?;
-    book.admit(8)?;
-    book.admit(12)?;
+    let mut book = book_of(rt.alloc(), 5, [8, 12])?;
     let mut file = [9; 33];
     assert_eq!(rt; book.save(&mut file), Ok(32));
     assert_eq!(rt; file[32], 9);
@@ -23,18 +22,14 @@ fn a_book_comes_back_from_its_file(rt: HostRuntime) -> Result<(), Fail> {
     assert_eq!(rt; other.least(1), Some(16));
     let mut again = [0; 32];
     assert_eq!(rt; other.save(&mut again), Ok(32));
-    for at in 0..32 {
-        assert_eq!(rt; again[at], file[at]);
-    }
+    assert!(rt; again.as_slice() == &file[0..32]);
     assert_eq!(rt; other.save(&mut again[0..31]), Err(Refusal::NoRoom(32)));
     Ok(())
 }
 
 #[test]
 fn a_survey_answers_for_the_past(rt: HostRuntime) -> Result<(), Fail> {
-    let mut book = Book::open(rt.alloc(), 5)?;
-    book.admit(8)?;
-    book.admit(12)?;
+    let mut book = book_of(rt.alloc(), 5, [8, 12])?;
     let mut file = [0; 32];
     assert_eq!(rt; book.save(&mut file), Ok(32));
     assert_eq!(rt; book.withdraw(8, &mut [0; 5]), Ok(()));

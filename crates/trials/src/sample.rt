@@ -1,21 +1,21 @@
 //! A showing source that is neither a book nor a pair: the units 5, 8 and 12 with their table written out.
 
-ghost use Rattle.std.specs.Prelude.{[], ◌∷◌, refl};
+ghost use Rattle.std.specs.Prelude.{refl};
 ghost use Rattle.tables.specs.Tables.{entry_of};
 ghost use Rattle.tables.specs.Written.{written_lawful};
-ghost use Rattle.trials.specs.Sampled.{sampled};
+ghost use Rattle.trials.specs.Sampled.{sampled, sampled_ordered, sampled_row, sampled_table};
 
-use tables::{Showing, Source};
+use tables::{Entries, Showing, Source};
 
 #[derive(Clone, Copy)]
 pub struct Sample;
 
-impl Source for Sample {
+impl Entries for Sample {
     ghost modulus = { λ _. 5 };
 
     ghost entry = { λ _. entry_of sampled };
 
-    ghost lawful = { λ _. written_lawful sampled refl };
+    ghost past = { λ _. (written_lawful sampled refl).past };
 
     fn base(&self) -> u32 {
         5
@@ -33,8 +33,18 @@ impl Source for Sample {
     }
 }
 
+impl Source for Sample {
+    ghost lawful = { λ _. written_lawful sampled refl };
+}
+
 impl Showing for Sample {
-    ghost row = { λ _. 5 ∷ 8 ∷ 12 ∷ [] };
+    ghost row = { λ _. sampled_row };
+
+    ghost ordered = { λ _. sampled_ordered };
+
+    ghost based = { λ _. refl };
+
+    ghost table = { λ _. sampled_table };
 
     fn units(&self) -> usize {
         3

@@ -23,11 +23,9 @@ fn judge_changed(at: usize, bytes: [u8; 2]) -> Result<(), Refusal> {
 fn judge_entries(entries: [u32; 5]) -> Result<(), Refusal> {
     let mut file = [0; 32];
     file.copy_from_slice(FILE);
-    file[12..16].copy_from_slice(&entries[0].to_be_bytes());
-    file[16..20].copy_from_slice(&entries[1].to_be_bytes());
-    file[20..24].copy_from_slice(&entries[2].to_be_bytes());
-    file[24..28].copy_from_slice(&entries[3].to_be_bytes());
-    file[28..32].copy_from_slice(&entries[4].to_be_bytes());
+    for (field, entry) in file[12..].chunks_exact_mut(4).zip(entries) {
+        field.copy_from_slice(&entry.to_be_bytes());
+    }
     judge(&file)
 }
 

@@ -1,29 +1,12 @@
 //! Withdrawals: the table of the smaller row, and what is left of the strip.
 
-use books::Book;
-use std::alloc::Global;
-use std::process::Abort;
+use crate::checks::{book_of, check_entries};
 use std::test::Fail;
-use tables::{Refusal, Showing, Source};
-
-/// The book of the units 5, 8 and 12.
-fn book_of_three(heap: Global) -> Result<Book, Refusal> {
-    let mut book = Book::open(heap, 5)?;
-    book.admit(12)?;
-    book.admit(8)?;
-    Ok(book)
-}
-
-/// Checks the entries by the base 5.
-fn check_entries(rt: &impl Abort, book: &Book, entries: [u32; 5]) {
-    for remainder in 0..5 {
-        assert_eq!(rt; book.least(remainder), Some(entries[remainder as usize]));
-    }
-}
+use tables::{Entries, Refusal, Showing};
 
 #[test]
 fn builds_the_table_afresh(rt: HostRuntime) -> Result<(), Fail> {
-    let mut book = book_of_three(rt.alloc())?;
+    let mut book = book_of(rt.alloc(), 5, [12, 8])?;
     let mut strip = [1, 7, 1, 0, 255, 6, 1];
     assert_eq!(rt; book.withdraw(8, &mut strip), Ok(()));
     assert_eq!(rt; strip, [0, 0, 0, 0, 0, 6, 1]);
@@ -39,7 +22,7 @@ fn builds_the_table_afresh(rt: HostRuntime) -> Result<(), Fail> {
 
 #[test]
 fn refuses_and_clears_the_strip(rt: HostRuntime) -> Result<(), Fail> {
-    let mut book = book_of_three(rt.alloc())?;
+    let mut book = book_of(rt.alloc(), 5, [12, 8])?;
     let mut short = [1, 2, 3, 4];
     assert_eq!(rt; book.withdraw(5, &mut short), Err(Refusal::NoRoom(5)));
     assert_eq!(rt; short, [1, 2, 3, 4]);

@@ -1,34 +1,35 @@
 //! A book as a showing source: its row is stored, and its steps are looked up among the entries.
 
+ghost use Rattle.std.specs.Prelude.{refl};
 ghost use Rattle.books.specs.Books.{row_of};
+ghost use Rattle.books.specs.Held.{book_row, book_table};
 
 use super::Book;
-use crate::steps::first_step;
-use tables::Showing;
+use tables::{Showing, steps_up};
 
 impl Showing for Book {
     ghost row = { λ b. row_of b };
+
+    ghost ordered = { λ b. book_row b };
+
+    ghost based = { λ b. refl };
+
+    ghost table = { λ b. book_table b };
 
     fn units(&self) -> usize {
         self.others.len() + 1
     }
 
     fn size(&self, position: usize) -> Option<u16> {
-        if position == 0 {
-            return Some(self.base);
+        match position.checked_sub(1) {
+            None => Some(self.base),
+            Some(place) => self.others.get(place).copied(),
         }
-        if position > self.others.len() {
-            return None;
-        }
-        Some(self.others[position - 1])
     }
 
     fn step(&self, remainder: u32) -> Option<usize> {
-        first_step(
-            u32::from(self.base),
-            self.others.as_slice(),
-            self.entries.as_slice(),
-            remainder,
-        )
+        let mut others = self.others.iter();
+        let place = others.position(|&size| steps_up(self, remainder, size));
+        place.map(|place| place + 1)
     }
 }

@@ -1,18 +1,20 @@
 //! A view over a true file as a showing source: it reads its answers from the file's bytes.
 
+ghost use Rattle.std.specs.Prelude.{refl};
+ghost use Rattle.files.specs.Entries.{entry_past};
 ghost use Rattle.files.specs.Layout.{file_base, file_entry, file_row};
-ghost use Rattle.files.specs.Viewed.{view_lawful};
+ghost use Rattle.files.specs.Viewed.{view_lawful, view_row, view_table};
 
 use super::View;
 use crate::{reading, stepping};
-use tables::{Showing, Source};
+use tables::{Entries, Showing, Source};
 
-impl Source for View<'_> {
+impl Entries for View<'_> {
     ghost modulus = { λ v. file_base v.file.now };
 
     ghost entry = { λ v. file_entry v.file.now };
 
-    ghost lawful = { λ v. view_lawful v };
+    ghost past = { λ v. entry_past v.file.now };
 
     fn base(&self) -> u32 {
         reading::base(self.file)
@@ -23,8 +25,18 @@ impl Source for View<'_> {
     }
 }
 
+impl Source for View<'_> {
+    ghost lawful = { λ v. view_lawful v };
+}
+
 impl Showing for View<'_> {
     ghost row = { λ v. file_row v.file.now };
+
+    ghost ordered = { λ v. view_row v };
+
+    ghost based = { λ v. refl };
+
+    ghost table = { λ v. view_table v };
 
     fn units(&self) -> usize {
         reading::units(self.file)

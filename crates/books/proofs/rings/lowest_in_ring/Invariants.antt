@@ -1,12 +1,6 @@
-use Rattle.std.proofs.Common.{◌≡◌, ◌+◌, ◌-◌, ◌%◌, length}
-use Rattle.tables.specs.Tables.{entry_of}
-use Rattle.books.proofs.Lows.{LowestBelow}
+use Rattle.std.proofs.Common.{◌≡◌}
+use Rattle.books.proofs.Lows.{Turned}
 use Rattle.books.proofs.rings.lowest_in_ring.Given as goal
 
-abbrev pub invariant-loop-t : goal.invariant-loop-t
-invariant-loop-t l =
-    (l.t % l.stride ≡ l.start)
-    × LowestBelow (length l.entries) l.stride l.start l.t (entry_of l.entries) l.low
-
-abbrev pub decreases-loop-t : goal.decreases-loop-t
-decreases-loop-t l = length l.entries + l.stride - l.t
+abbrev pub invariant-loop-turn : goal.invariant-loop-turn
+invariant-loop-turn l = (l.turn-iterator.size ≡ l.stride) × Turned l.entries l.stride l.start l.turn-iterator.rest.now l.low

@@ -1,5 +1,5 @@
 use Rattle.std.proofs.Common.{◌≡◌, ◌∙◌, arith}
-use Rattle.tables.proofs.Entries.{same_entry}
+use Rattle.tables.proofs.Present.{same_entry}
 use Rattle.control.proofs.packing.pack.Goals as goal
 
 pub returns : goal.returns

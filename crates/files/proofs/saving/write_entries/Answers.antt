@@ -10,7 +10,7 @@ loop-remainder-init g c = part_none entry_bytes c.args.out.now c.args.at
 
 pub loop-remainder-preserved : goal.loop-remainder-preserved
 loop-remainder-preserved g c =
-    let entry : ℕ → Option ℕ = g.S.Source.entry c.args.source.now in
+    let entry : ℕ → Option ℕ = g.S.Entries.entry c.args.source.now in
     let i : ℕ = c.loop-remainder.remainder in
     let os : List (Option ℕ) = entries_from entry 0 c.args.base in
     let at : ℕ = c.args.at + 4 * i in
@@ -21,7 +21,7 @@ loop-remainder-preserved g c =
 
 pub returns : goal.returns
 returns g c =
-    let entry : ℕ → Option ℕ = g.S.Source.entry c.args.source.now in
+    let entry : ℕ → Option ℕ = g.S.Entries.entry c.args.source.now in
     let os : List (Option ℕ) = entries_from entry 0 c.args.base in
     part_all entry_bytes 4 os c.args.out.now c.loop-remainder.out c.args.at c.loop-remainder.remainder c.args.base
     (omega (arith, entries_length entry 0 c.args.base)) (omega arith) c.loop-remainder.invariant

@@ -6,4 +6,4 @@ use Rattle.files.proofs.saving.write_entries.Given as goal
 abbrev pub invariant-loop-remainder : goal.invariant-loop-remainder
 invariant-loop-remainder g l =
     l.out
-    ≡ take l.at l.initial.out ++ flat_map entry_bytes (take l.remainder (entries_from (g.S.Source.entry l.source) 0 l.base)) ++ drop (l.at + 4 * l.remainder) l.initial.out
+    ≡ take l.at l.initial.out ++ flat_map entry_bytes (take l.remainder (entries_from (g.S.Entries.entry l.source) 0 l.base)) ++ drop (l.at + 4 * l.remainder) l.initial.out

@@ -1,7 +1,6 @@
-use Rattle.std.proofs.Common.{◌≡◌, ℕ, ◌-◌, ◌/◌, ◌%◌, length, sym, refl, ap, ◌∙◌, subst, arith}
+use Rattle.std.proofs.Common.{ℕ, ◌-◌, ◌/◌, ◌%◌, length, sym, refl, ap, ◌∙◌, subst, arith}
 use Rattle.tables.specs.Made.{Followed, too_large}
-use Rattle.tables.specs.Rows.{base_of}
-use Rattle.tables.proofs.Loads.{refuses_short, refuses_absent, refuses_below, made}
+use Rattle.tables.proofs.Loads.{refuses_short, remainder_by, refuses_absent, refuses_below, made}
 use Rattle.tables.proofs.making.make.Goals as goal
 
 pub returns-then-load-gt-GREATEST : goal.returns-then-load-gt-GREATEST
@@ -13,26 +12,25 @@ returns-then-numbers-units g c = (refuses_short (g.S.Showing.row c.args.source.n
 pub returns-in_default : goal.returns-in_default
 returns-in_default g c =
     let s = c.args.source.now in (
-      refuses_absent (g.S.Showing.row s) (g.S.Source.entry s) c.units-units.ensures.ordered c.units-units.ensures.table c.args.load (length c.args.numbers.now) (c.args.load % c.from.result) (omega arith) (omega arith)
-          (ap (λ (b : ℕ). c.args.load % b) (c.from.ensures ∙ c.base-base.ensures ∙ sym c.units-units.ensures.based)) (sym c.least.ensures ∙ c.in_default.is),
+      refuses_below (g.S.Showing.row s) (g.S.Entries.entry s) (g.met.S.Showing.ordered s) (g.met.S.Showing.table s) c.args.load (length c.args.numbers.now) (c.args.load % c.from-base.result) (omega arith) (omega arith)
+          (remainder_by (g.S.Showing.row s) c.args.load (g.met.S.Showing.based s) c.base.ensures c.from-base.ensures) c.in-Some.entry (sym c.least.ensures ∙ c.in-Some.is) (omega arith),
       refl,
     )
 
-pub returns-then-load-from : goal.returns-then-load-from
-returns-then-load-from g c =
+pub returns-in_default-2 : goal.returns-in_default-2
+returns-in_default-2 g c =
     let s = c.args.source.now in (
-      refuses_below (g.S.Showing.row s) (g.S.Source.entry s) c.units-units.ensures.ordered c.units-units.ensures.table c.args.load (length c.args.numbers.now) (c.args.load % c.from.result) (omega arith) (omega arith)
-          (ap (λ (b : ℕ). c.args.load % b) (c.from.ensures ∙ c.base-base.ensures ∙ sym c.units-units.ensures.based)) c.in-Some.entry (sym c.least.ensures ∙ c.in-Some.is) (omega arith),
+      refuses_absent (g.S.Showing.row s) (g.S.Entries.entry s) (g.met.S.Showing.ordered s) (g.met.S.Showing.table s) c.args.load (length c.args.numbers.now) (c.args.load % c.from-base.result) (omega arith) (omega arith)
+          (remainder_by (g.S.Showing.row s) c.args.load (g.met.S.Showing.based s) c.base.ensures c.from-base.ensures) (sym c.least.ensures ∙ c.in_default.is),
       refl,
     )
 
 pub returns : goal.returns
 returns g c =
     let s = c.args.source.now in
-    let divides : c.base-base.result ≡ base_of (g.S.Showing.row s) = c.base-base.ensures ∙ sym c.units-units.ensures.based in
-    made (g.S.Showing.row s) (g.S.Source.entry s) c.units-units.ensures.ordered c.units-units.ensures.table c.args.load
-    (c.args.load % c.from.result) c.in-Some.entry c.units-units.result _ c.args.numbers.now c.follow.new.counts
-    (ap (λ (b : ℕ). c.args.load % b) (c.from.ensures ∙ divides)) (sym c.least.ensures ∙ c.in-Some.is) (omega arith) (omega arith)
-    c.units-units.ensures.value (omega arith)
-    (ap (λ (e : ℕ). (c.args.load - e) / c.from-4.result) c.from-3.ensures ∙ ap (λ (b : ℕ). (c.args.load - c.in-Some.entry) / b) (c.from-4.ensures ∙ divides))
-    (subst (λ (b : ℕ). Followed (g.S.Showing.row s) (c.in-Some.entry % b) c.follow.new.counts) divides c.follow.ensures.followed) c.follow.ensures.adds c.follow.ensures.first
+    made (g.S.Showing.row s) (g.S.Entries.entry s) (g.met.S.Showing.ordered s) (g.met.S.Showing.table s) c.args.load
+    (c.args.load % c.from-base.result) c.in-Some.entry c.units-units.result _ c.args.numbers.now c.follow.new.counts
+    (remainder_by (g.S.Showing.row s) c.args.load (g.met.S.Showing.based s) c.base.ensures c.from-base.ensures) (sym c.least.ensures ∙ c.in-Some.is) (omega arith) (omega arith)
+    c.units-units.ensures (omega arith)
+    (ap (λ (e : ℕ). (c.args.load - e) / c.from-base.result) c.from-2.ensures ∙ ap (λ (b : ℕ). (c.args.load - c.in-Some.entry) / b) (c.from-base.ensures ∙ c.base.ensures ∙ sym (g.met.S.Showing.based s)))
+    (subst (λ (b : ℕ). Followed (g.S.Showing.row s) (c.in-Some.entry % b) c.follow.new.counts) (sym (g.met.S.Showing.based s)) c.follow.ensures.followed) c.follow.ensures.adds c.follow.ensures.first

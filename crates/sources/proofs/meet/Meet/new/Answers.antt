@@ -4,5 +4,5 @@ use Rattle.sources.proofs.meet.Meet.new.Goals as goal
 
 pub returns-then-base : goal.returns-then-base
 returns-then-base g c =
-    let same : g.A.Source.modulus c.args.first ≡ g.B.Source.modulus c.args.second = omega arith in
-    (refl, refl, meets_equal (g.A.Source.modulus c.args.first) (g.B.Source.modulus c.args.second) (g.A.Source.entry c.args.first) (g.B.Source.entry c.args.second) same)
+    let same : g.A.Entries.modulus c.args.first ≡ g.B.Entries.modulus c.args.second = omega arith in
+    (refl, refl, meets_equal (g.A.Entries.modulus c.args.first) (g.B.Entries.modulus c.args.second) (g.A.Entries.entry c.args.first) (g.B.Entries.entry c.args.second) same)

@@ -1,7 +1,7 @@
 use Rattle.std.proofs.Common.{◌≡◌, ℕ, ◌%◌, refl, ap, ◌∙◌, inl, inr, arith}
 use Rattle.std.proofs.lemmas.Result.{err_from_is_err_and}
 use Rattle.sources.proofs.Euclid.{solved_greatest}
-use Rattle.sources.proofs.PairIs.{pair_is}
+use Rattle.sources.specs.PairIs.{pair_is}
 use Rattle.sources.proofs.pair.stored.Pair.new.Goals as goal
 
 pub returns-in_err-check_range : goal.returns-in_err-check_range

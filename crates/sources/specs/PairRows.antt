@@ -4,7 +4,7 @@ use native.Mathlib.Nat.{mul-add-mod_self_left}
 use Rattle.std.proofs.lemmas.Bool.{cases_lt}
 use Rattle.sources.specs.NewPairs.{Enters}
 use Rattle.sources.specs.Pairs.{First}
-use Rattle.tables.proofs.Entries.{same_entry, not_both}
+use Rattle.tables.proofs.Present.{same_entry, not_both}
 use Rattle.tables.specs.Rows.{Makes, Least, Table, total}
 
 -- so many bases and so many of the other unit
