@@ -8,7 +8,6 @@ ghost use Rattle.sheets.specs.Splitting.{lines_of};
 
 use crate::answers::print_line;
 use crate::sheet::Sheet;
-use crate::splitting::line_end;
 use std::alloc::Global;
 use tables::Refusal;
 
@@ -21,14 +20,9 @@ fn answer_lines(heap: Global, input: &[u8]) -> Result<String, Refusal>
 {
     let mut out = String::new(heap);
     let mut sheet = Sheet::new(heap)?;
-    let mut number = 0;
-    let mut at = 0;
-    while at < input.len() {
-        let end = line_end(input, at);
-        number += 1;
-        let outcome = sheet.answer(&input[at..end]);
-        print_line(&mut out, number, outcome)?;
-        at = end;
+    for (index, line) in input.split_inclusive(|&b| b == b'\n').enumerate() {
+        let outcome = sheet.answer(line);
+        print_line(&mut out, index + 1, outcome)?;
     }
     Ok(out)
 }
