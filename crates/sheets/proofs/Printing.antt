@@ -1,5 +1,5 @@
 -- What is written of an outcome is its printed line.
-use Rattle.std.proofs.Common.{◌≡◌, ℕ, ◌+◌, ◌<◌, List, [], ◌∷◌, ◌++◌, length, get_or, take, Some, None, Err, codes, decimal, Option, Result, sym, refl, ap, ◌∙◌, subst, append_assoc, append-nil, arith}
+use Rattle.std.proofs.Common.{◌≡◌, ℕ, ◌+◌, ◌<◌, List, [], ◌∷◌, ◌++◌, length, get_or, take, Some, None, Err, codes, decimal, Option, Result, sym, refl, ap, ◌∙◌, append_assoc, append-nil, arith}
 use Rattle.std.proofs.lemmas.List.{take_more}
 use Rattle.tables.specs.Refusals.{number_of, place_of}
 use Rattle.tables.specs.declared.refusals.Refusal.{Refusal}
@@ -24,11 +24,6 @@ adds_refused line reason number place before after numbered placed is = record {
   printed = record { text = refused_text number place; said = rw (numbered, placed) refl; spelled = refl };
   is = is;
 }
-
--- what is printed first
-pub printed_alone : (line : ℕ) (outcome : Result Answer Refusal) (before after : List ℕ) → before ≡ [] → AddsLine line outcome before after → Printed line outcome after
-printed_alone line outcome before after none adds =
-    subst (Printed line outcome) (ap (λ bs. bs ++ adds.bytes) (sym none) ∙ sym adds.is) adds.printed
 
 -- want of memory is never printed
 pub printed_kept : (line : ℕ) (outcome : Result Answer Refusal) (bytes : List ℕ) → Printed line outcome bytes → outcome ≡ Err NoMemory → ⊥
