@@ -5,7 +5,7 @@ use Rattle.std.proofs.lemmas.List.{get_or_append_left}
 use Rattle.tables.specs.declared.refusals.Refusal.{Refusal}
 use Rattle.tables.specs.declared.refusals.Refusal.TheVariants.{Unreadable}
 use Rattle.lines.specs.Numbers.{Digit, Bare, NumberThen, Numbered, Numberless}
-use Rattle.lines.specs.Tails.{After, End, Spaced, SpacedNumber, Passes, LastNumber, Breaks}
+use Rattle.lines.specs.Tails.{After, End, Spaced, SpacedNumber, Passes, Breaks}
 use Rattle.lines.specs.Texts.{Starts, Stops}
 use Rattle.lines.proofs.Figures.{same_front, bare_end}
 use Rattle.lines.proofs.Languages.{split, same_cons, Narrows, starts_after, starts_end, stops_after, stops_before, stops_narrow, narrows_after}
@@ -186,10 +186,3 @@ module _ {Rest : List ℕ → Type 0} (ending : Ending Rest) {most : ℕ} {bytes
         stops = subst (λ (u : List ℕ). Stops (Spaced most Rest) u (end + b.place)) (spaced_is n)
             (subst (Stops (Spaced most Rest) (32 ∷ (decimal v ++ drop end bytes))) long (stops_after 32 (NumberThen most Rest) _ _ beyond));
       }
-
--- the space, the number and the end of the line are there
-pub last : {most column v past : ℕ} {bytes left : List ℕ} → Passes most bytes column v left past → End left → LastNumber most bytes v
-last {v = v} passes ended = record {
-  fits = passes.number.fits;
-  is = ap (λ (u : List ℕ). 32 ∷ (decimal v ++ u)) (sym ended ∙ passes.behind) ∙ spaced_is passes.number;
-}
