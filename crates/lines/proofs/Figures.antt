@@ -1,12 +1,14 @@
 -- Numbers in front of bytes: what the loop of the number reader knows, and where bytes break off before and in a number.
-use Rattle.std.proofs.Common.{◌≡◌, ℕ, ◌+◌, ◌-◌, ◌*◌, ◌/◌, ◌%◌, ◌^◌, ◌<◌, ◌≤◌, List, [], ◌∷◌, ◌++◌, length, get_or, take, drop, decimal, sym, refl, ap, ◌∙◌, subst, ⊎_elim, append-nil, arith, length-append, take-append-drop, length-take, take_all, get_or-take}
+use Rattle.std.proofs.Common.{◌≡◌, ℕ, ◌+◌, ◌-◌, ◌*◌, ◌/◌, ◌%◌, ◌^◌, ◌<◌, ◌≤◌, ◌≢◌, List, [], ◌∷◌, ◌++◌, length, get_or, take, drop, Some, None, Err, unwrap_or, decimal, Option, Result, sym, refl, ap, ◌∙◌, subst, ⊎_elim, append-nil, arith, length-append, take-append-drop, length-take, take_all, get_or-take}
 use Rattle.std.specs.Str.Parse.{AllDigits, digits_value, digits_value_after}
 use Rattle.std.specs.Char.{digit_value}
+use Rattle.std.specs.Option.{ok_or}
 use Rattle.std.proofs.lemmas.Fmt.{decimal_is_IsNumeral, decimal_digit, decimal_step, decimal_nonempty, first_decimal, length-decimal-le}
 use Rattle.std.proofs.lemmas.Int.Digits.{digits_value_more, digits_more}
 use Rattle.std.proofs.lemmas.List.{take_more, get_or_append_left}
 use Rattle.std.proofs.lemmas.Str.Parse.{digit_from_value, digit_at}
 use Rattle.std.proofs.lemmas.Bool.{cases_eq, cases_lt}
+use Rattle.std.proofs.lemmas.Option.{none-some}
 use Rattle.std.proofs.lemmas.Bool.Decides.{nat_tests}
 use Rattle.lines.specs.Numbers.{Digit, Bare, NumberThen, Numbered, Numberless}
 use Rattle.lines.specs.Texts.{Starts}
@@ -232,3 +234,45 @@ module _ {most : ℕ} {bytes : List ℕ} {i v : ℕ} (so : Sofar most bytes i v)
     -- the byte at i ends the number
     pub numbered : 0 < i → (Digit (get_or bytes i 0) → ⊥) → Numbered most bytes v i
     numbered some bare = record { fits = so.fits; short = short (omega arith); within = h; is = so.is some; after = bare }
+
+-- What the reader knows before place i: no number before the first digit.
+pub record Read (most : ℕ) (bytes : List ℕ) (i : ℕ) (value : Option ℕ) : Type 0 where
+  pub so : Sofar most bytes i (unwrap_or value 0)
+  pub none : i ≡ 0 → value ≡ None
+  pub some : 0 < i → value ≡ Some (unwrap_or value 0)
+
+pub read_first : (most : ℕ) (bytes : List ℕ) → Read most bytes 0 None
+read_first most bytes = record {
+  so = record { fits = omega arith; start = λ _. refl; is = λ more. absurd (omega arith) };
+  none = λ _. refl;
+  some = λ more. absurd (omega arith);
+}
+
+-- no value is refused with what stands in for it
+pub refused_at : {o : Option ℕ} {i e : ℕ} → o ≡ None → Err e ≡ ok_or o i → e ≡ i
+refused_at {i = i} {e = e} none is = let err : ◌≡◌ {A = Result ℕ ℕ} (Err e) (Err i) = rw none at is in cc
+
+module _ {most : ℕ} {bytes : List ℕ} {i : ℕ} {value : Option ℕ} (read : Read most bytes i value) (small : most < 2 ^ 32) (h : i < length bytes) where
+  -- before the first digit a byte stands that is none
+  pub read_none : value ≡ None → (Digit (get_or bytes i 0) → ⊥) → Numberless most bytes i
+  read_none none bare = numberless_first read.so small h
+      (⊎_elim (λ (z : i ≡ 0). z) (λ (z : i ≡ 0 → ⊥). absurd (none-some _ (sym none ∙ read.some (omega arith)))) (cases_eq i 0)) bare
+
+  -- behind a digit a byte stands that is none
+  pub read_number : (n : ℕ) → value ≡ Some n → (Digit (get_or bytes i 0) → ⊥) → Numbered most bytes n i
+  read_number n some bare =
+      let more : 0 < i = ⊎_elim (λ (z : i ≡ 0). absurd (none-some _ (sym (read.none z) ∙ some))) (λ (z : i ≡ 0 → ⊥). omega arith) (cases_eq i 0) in
+      subst (λ (v : Option ℕ). Numbered most bytes (unwrap_or v 0) i) some (numbered read.so small h more bare)
+
+  module _ (digit : Digit (get_or bytes i 0)) where
+    pub read_more : (n : ℕ) → (value ≢ Some 0) × (unwrap_or value 0 * 10 + (get_or bytes i 0 - 48) ≤ most) → n ≡ unwrap_or value 0 * 10 + (get_or bytes i 0 - 48) → Read most bytes (i + 1) (Some n)
+    read_more n room is = record {
+      so = subst (Sofar most bytes (i + 1)) (sym is) (sofar_grown read.so small h digit
+          (λ more. ⊎_elim (λ (z : unwrap_or value 0 ≡ 0). absurd (room.0 (read.some more ∙ ap Some z))) (λ (z : unwrap_or value 0 ≡ 0 → ⊥). omega arith) (cases_eq (unwrap_or value 0) 0), room.1));
+      none = λ z. absurd (omega arith);
+      some = λ _. refl;
+    }
+
+    pub read_over : ((value ≢ Some 0) × (unwrap_or value 0 * 10 + (get_or bytes i 0 - 48) ≤ most) → ⊥) → Numberless most bytes i
+    read_over none = numberless_grown read.so small h digit (λ room. none
+        (λ zero. ⊎_elim (λ (z : i ≡ 0). none-some _ (sym (read.none z) ∙ zero)) (λ (z : i ≡ 0 → ⊥). let some = room.0 (omega arith) in let v : unwrap_or value 0 ≡ 0 = ap (λ (o : Option ℕ). unwrap_or o 0) zero in omega arith) (cases_eq i 0), room.1))

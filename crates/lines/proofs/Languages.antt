@@ -1,7 +1,6 @@
 -- Languages: how the place at which bytes break off carries over from one language to another.
-use Rattle.std.proofs.Common.{◌≡◌, ℕ, suc, ◌+◌, ◌-◌, ◌<◌, false, eqb, ◌⊎◌, List, [], ◌∷◌, ◌++◌, length, get_or, take, drop, sym, refl, ap, ◌∙◌, subst, inl, inr, ⊎_elim, arith, take-append-drop}
+use Rattle.std.proofs.Common.{◌≡◌, ℕ, suc, ◌+◌, ◌-◌, ◌<◌, ◌⊎◌, List, [], ◌∷◌, ◌++◌, length, get_or, take, drop, sym, refl, ap, ◌∙◌, subst, inl, inr, ⊎_elim, arith, take-append-drop}
 use Rattle.std.proofs.lemmas.Slice.{first_rest}
-use Rattle.std.proofs.lemmas.Bool.{eqb-false}
 use Rattle.lines.specs.Texts.{Starts, Stops}
 use Rattle.lines.specs.Tails.{After, End}
 
@@ -14,11 +13,9 @@ same_cons e f = cc
 pub never : {x : ℕ} {s : List ℕ} → x ∷ s ≡ [] → ⊥
 never e = let z : ◌≡◌ {A = ℕ} 0 1 = cc in omega arith
 
--- a first byte, and the rest as `&bytes[1..]` has it
-pub parted : (x : ℕ) {bytes : List ℕ} → false ≡ eqb (length bytes) 0 → get_or bytes 0 0 ≡ x → bytes ≡ x ∷ take (length bytes - 1) (drop 1 bytes)
-parted x {bytes = bytes} some first =
-    let long = eqb-false (length bytes) 0 (sym some) in
-    first_rest bytes 0 (omega arith) ∙ ap (λ (b : ℕ). b ∷ take (length bytes - 1) (drop 1 bytes)) first
+-- a first byte, and the rest as a slice pattern has it
+pub parted : (x : ℕ) {bytes : List ℕ} → 0 < length bytes → get_or bytes 0 0 ≡ x → bytes ≡ x ∷ take (length bytes - 1) (drop 1 bytes)
+parted x {bytes = bytes} some first = first_rest bytes 0 some ∙ ap (λ (b : ℕ). b ∷ take (length bytes - 1) (drop 1 bytes)) first
 
 -- All has after the byte x just the texts of Rest
 module _ (All Rest : List ℕ → Type 0) (x : ℕ) (to : (t : List ℕ) → Rest t → All (x ∷ t)) (from : (t : List ℕ) → All (x ∷ t) → Rest t) where
@@ -97,8 +94,3 @@ module _ (Wide Narrow : List ℕ → Type 0) (n : Narrows Wide Narrow) where
 -- the end of a line
 pub starts_end : Starts End []
 starts_end = record { rest = 10 ∷ []; whole = refl }
-
-pub ends : (t : List ℕ) → 0 < length t → get_or t 0 0 ≡ 10 → length t < 2 → End t
-ends [] some first short = absurd (omega arith)
-ends (y ∷ []) some first short = ap (λ (b : ℕ). b ∷ []) first
-ends (y ∷ (z ∷ t)) some first short = absurd (omega arith)

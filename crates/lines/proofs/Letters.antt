@@ -1,15 +1,16 @@
 -- Readable lines by their letter: where bytes break off as a line, from where what follows the letter does.
-use Rattle.std.proofs.Common.{◌≡◌, ℕ, suc, ◌+◌, ◌-◌, ◌≤◌, true, cond, eqb, List, [], ◌∷◌, ◌++◌, length, get_or, decimal, sym, refl, ap, ◌∙◌, subst, arith}
+use Rattle.std.proofs.Common.{◌≡◌, ℕ, suc, ◌+◌, ◌-◌, ◌<◌, ◌≤◌, cond, eqb, List, [], ◌∷◌, ◌++◌, length, get_or, take, drop, decimal, Ok, Err, Result, MatchResult, IsOkAnd, sym, refl, ap, ◌∙◌, subst, arith}
+use Rattle.std.specs.Result.{result_and}
 use Rattle.std.proofs.lemmas.List.{get_or_past}
-use Rattle.std.proofs.lemmas.Bool.{eqb-true, ne_eqb}
+use Rattle.std.proofs.lemmas.Bool.{ne_eqb}
 use Rattle.tables.specs.declared.refusals.Refusal.{Refusal}
 use Rattle.tables.specs.declared.refusals.Refusal.TheVariants.{Unreadable}
 use Rattle.lines.specs.declared.line.Line.{Line}
 use Rattle.lines.specs.declared.line.Line.TheVariants.{Open, Admit, Withdraw, Make, Largest, Gaps}
-use Rattle.lines.specs.Lines.{text, Fits, Spells, Readable, Unread}
-use Rattle.lines.specs.Tails.{End, Spaced, Breaks}
+use Rattle.lines.specs.Lines.{text, Fits, Spells, Readable, Unread, Reads}
+use Rattle.lines.specs.Tails.{End, Spaced, LastNumber, Breaks}
 use Rattle.lines.specs.Texts.{Starts, Stops}
-use Rattle.lines.proofs.Languages.{split, never, stops_under}
+use Rattle.lines.proofs.Languages.{split, never, parted, stops_under}
 
 abbrev pub letter : Line → ℕ
 letter (Open base) = 66
@@ -93,25 +94,6 @@ unread x to {t = t} e b = record {
       (subst (Stops Readable (x ∷ t)) k (stops_under Readable (Tail x) x to (from_line x) t b.place b.stops));
 }
 
-module _ {bytes t : List ℕ} {reason : Refusal} where
-  pub unread_open : bytes ≡ 66 ∷ t → Breaks Numeric t 2 reason → Unread bytes reason
-  unread_open e = unread 66 (to_number 66 Open (λ n h. h) (λ n. refl)) e
-
-  pub unread_admit : bytes ≡ 65 ∷ t → Breaks Numeric t 2 reason → Unread bytes reason
-  unread_admit e = unread 65 (to_number 65 Admit (λ n h. h) (λ n. refl)) e
-
-  pub unread_withdraw : bytes ≡ 87 ∷ t → Breaks Numeric t 2 reason → Unread bytes reason
-  unread_withdraw e = unread 87 (to_number 87 Withdraw (λ n h. h) (λ n. refl)) e
-
-  pub unread_make : bytes ≡ 77 ∷ t → Breaks Numeric t 2 reason → Unread bytes reason
-  unread_make e = unread 77 (to_number 77 Make (λ n h. h) (λ n. refl)) e
-
-  pub unread_largest : bytes ≡ 76 ∷ t → Breaks End t 2 reason → Unread bytes reason
-  unread_largest e = unread 76 (to_alone 76 Largest tt refl) e
-
-  pub unread_gaps : bytes ≡ 71 ∷ t → Breaks End t 2 reason → Unread bytes reason
-  unread_gaps e = unread 71 (to_alone 71 Gaps tt refl) e
-
 starts_line : Starts Readable []
 starts_line = record { rest = 76 ∷ (10 ∷ []); whole = to_alone 76 Largest tt refl (10 ∷ []) refl }
 
@@ -143,12 +125,54 @@ unread_other bytes not_open not_admit not_withdraw not_make not_largest not_gaps
     let g = ne_eqb (get_or bytes 0 0) 71 not_gaps in
     unread_first bytes (λ t h. rw (o, a, w, m, l, g) at h)
 
-pub unread_empty : (bytes : List ℕ) → true ≡ eqb (length bytes) 0 → Unread bytes (Unreadable 1)
+pub unread_empty : (bytes : List ℕ) → length bytes < 1 → Unread bytes (Unreadable 1)
 unread_empty bytes none =
-    let short = eqb-true (length bytes) 0 (sym none) in
     let past = get_or_past bytes 0 0 (omega arith) in
     unread_other bytes (λ e. omega arith) (λ e. omega arith) (λ e. omega arith) (λ e. omega arith) (λ e. omega arith) (λ e. omega arith)
 
 -- the letter of a line, and what follows it in the line, spell the line
-pub spells : (line : Line) → Fits line → {bytes t : List ℕ} → bytes ≡ letter line ∷ t → tail line ≡ t → Spells bytes line
+spells : (line : Line) → Fits line → {bytes t : List ℕ} → bytes ≡ letter line ∷ t → tail line ≡ t → Spells bytes line
 spells line fits e is = record { fits = fits; is = text_is line ∙ ap (λ (u : List ℕ). letter line ∷ u) is ∙ sym e }
+
+-- A line is made of what is read behind its letter, and what breaks off there breaks off as a line.
+reads_with : {A : Type 0} (mk : A → Line) (Told : A → Type 0) (Broken : Refusal → Type 0) {bytes : List ℕ} → ((a : A) → Told a → Spells bytes (mk a)) → ((reason : Refusal) → Broken reason → Unread bytes reason)
+    → (behind : Result A Refusal) (line : Result Line Refusal) → MatchResult behind Told Broken → MatchResult behind (λ a. IsOkAnd line (λ l. l ≡ mk a)) (λ reason. line ≡ Err reason) → Reads bytes line
+reads_with mk Told Broken {bytes = bytes} spelled broken (Ok a) (Ok l) told made = subst (Spells bytes) (sym made) (spelled a told)
+reads_with mk Told Broken {bytes = bytes} spelled broken (Ok a) (Err reason) told made = absurd made
+reads_with mk Told Broken {bytes = bytes} spelled broken (Err reason) line told made = subst (Reads bytes) (sym made) (broken reason told)
+
+reads_alone : (mk : Line) {Told : Type 0} (Broken : Refusal → Type 0) {bytes : List ℕ} → (Told → Spells bytes mk) → ((reason : Refusal) → Broken reason → Unread bytes reason)
+    → (behind : Result (Unit {0}) Refusal) → MatchResult behind (λ _. Told) Broken → Reads bytes (result_and behind (Ok mk))
+reads_alone mk Broken spelled broken (Ok a) told = spelled told
+reads_alone mk Broken spelled broken (Err reason) told = broken reason told
+
+-- what stands behind the first byte, from column 2 on
+module _ (bytes : List ℕ) {t : List ℕ} {column : ℕ} (some : 0 < length bytes) (left : t ≡ take (length bytes - 1) (drop 1 bytes)) (second : column ≡ 2) where
+  whole : (x : ℕ) → get_or bytes 0 0 ≡ x → bytes ≡ x ∷ t
+  whole x first = parted x some first ∙ ap (λ (u : List ℕ). x ∷ u) (sym left)
+
+  module _ (number : Result ℕ Refusal) (line : Result Line Refusal) (told : MatchResult number (LastNumber 4294967295 t) (Breaks Numeric t column)) where
+    from_two : MatchResult number (LastNumber 4294967295 t) (Breaks Numeric t 2)
+    from_two = subst (λ (n : ℕ). MatchResult number (LastNumber 4294967295 t) (Breaks Numeric t n)) second told
+
+    pub reads_open : get_or bytes 0 0 ≡ 66 → MatchResult number (λ n. IsOkAnd line (λ l. l ≡ Open n)) (λ reason. line ≡ Err reason) → Reads bytes line
+    reads_open first = reads_with Open (LastNumber 4294967295 t) (Breaks Numeric t 2) (λ n l. spells (Open n) l.fits (whole 66 first) l.is) (λ reason b. unread 66 (to_number 66 Open (λ n h. h) (λ n. refl)) (whole 66 first) b) number line from_two
+
+    pub reads_admit : get_or bytes 0 0 ≡ 65 → MatchResult number (λ n. IsOkAnd line (λ l. l ≡ Admit n)) (λ reason. line ≡ Err reason) → Reads bytes line
+    reads_admit first = reads_with Admit (LastNumber 4294967295 t) (Breaks Numeric t 2) (λ n l. spells (Admit n) l.fits (whole 65 first) l.is) (λ reason b. unread 65 (to_number 65 Admit (λ n h. h) (λ n. refl)) (whole 65 first) b) number line from_two
+
+    pub reads_withdraw : get_or bytes 0 0 ≡ 87 → MatchResult number (λ n. IsOkAnd line (λ l. l ≡ Withdraw n)) (λ reason. line ≡ Err reason) → Reads bytes line
+    reads_withdraw first = reads_with Withdraw (LastNumber 4294967295 t) (Breaks Numeric t 2) (λ n l. spells (Withdraw n) l.fits (whole 87 first) l.is) (λ reason b. unread 87 (to_number 87 Withdraw (λ n h. h) (λ n. refl)) (whole 87 first) b) number line from_two
+
+    pub reads_make : get_or bytes 0 0 ≡ 77 → MatchResult number (λ n. IsOkAnd line (λ l. l ≡ Make n)) (λ reason. line ≡ Err reason) → Reads bytes line
+    reads_make first = reads_with Make (LastNumber 4294967295 t) (Breaks Numeric t 2) (λ n l. spells (Make n) l.fits (whole 77 first) l.is) (λ reason b. unread 77 (to_number 77 Make (λ n h. h) (λ n. refl)) (whole 77 first) b) number line from_two
+
+  module _ (ended : Result (Unit {0}) Refusal) (told : MatchResult ended (λ _. End t) (Breaks End t column)) where
+    end_from_two : MatchResult ended (λ _. End t) (Breaks End t 2)
+    end_from_two = subst (λ (n : ℕ). MatchResult ended (λ _. End t) (Breaks End t n)) second told
+
+    pub reads_largest : get_or bytes 0 0 ≡ 76 → Reads bytes (result_and ended (Ok Largest))
+    reads_largest first = reads_alone Largest (Breaks End t 2) (λ e. spells Largest tt (whole 76 first) (sym e)) (λ reason b. unread 76 (to_alone 76 Largest tt refl) (whole 76 first) b) ended end_from_two
+
+    pub reads_gaps : get_or bytes 0 0 ≡ 71 → Reads bytes (result_and ended (Ok Gaps))
+    reads_gaps first = reads_alone Gaps (Breaks End t 2) (λ e. spells Gaps tt (whole 71 first) (sym e)) (λ reason b. unread 71 (to_alone 71 Gaps tt refl) (whole 71 first) b) ended end_from_two

@@ -5,7 +5,7 @@ use Rattle.std.proofs.lemmas.List.{get_or_append_left}
 use Rattle.tables.specs.declared.refusals.Refusal.{Refusal}
 use Rattle.tables.specs.declared.refusals.Refusal.TheVariants.{Unreadable}
 use Rattle.lines.specs.Numbers.{Digit, Bare, NumberThen, Numbered, Numberless}
-use Rattle.lines.specs.Tails.{After, End, Spaced, SpacedNumber, Breaks}
+use Rattle.lines.specs.Tails.{After, End, Spaced, SpacedNumber, Passes, Breaks}
 use Rattle.lines.specs.Texts.{Starts, Stops}
 use Rattle.lines.proofs.Figures.{same_front, bare_end}
 use Rattle.lines.proofs.Languages.{split, same_cons, Narrows, starts_after, starts_end, stops_after, stops_before, stops_narrow, narrows_after}
@@ -154,7 +154,7 @@ module _ {most : ℕ} {bytes t : List ℕ} (e : bytes ≡ 32 ∷ t) where
         after = λ d. n.after (subst Digit at d);
       }
 
-pub spaced_is : {most : ℕ} {bytes : List ℕ} {v end : ℕ} → SpacedNumber most bytes v end → 32 ∷ (decimal v ++ drop end bytes) ≡ bytes
+spaced_is : {most : ℕ} {bytes : List ℕ} {v end : ℕ} → SpacedNumber most bytes v end → 32 ∷ (decimal v ++ drop end bytes) ≡ bytes
 spaced_is {bytes = bytes} {end = end} n = ap (λ (u : List ℕ). u ++ drop end bytes) (sym n.is) ∙ take-append-drop end bytes
 
 -- one space, a number, and then a text of Rest
@@ -168,17 +168,21 @@ module _ {Rest : List ℕ → Type 0} (ending : Ending Rest) {most : ℕ} {bytes
   }
 
   -- the space and the number are there, and what follows is no text of Rest
-  pub breaks_past : {v end : ℕ} → SpacedNumber most bytes v end → most < 2 ^ 32 → Breaks Rest (drop end bytes) (column + end) reason → Breaks (Spaced most Rest) bytes column reason
-  breaks_past {v = v} {end = end} n small b =
+  pub breaks_past : {v past : ℕ} {left : List ℕ} → Passes most bytes column v left past → most < 2 ^ 32 → Breaks Rest left past reason → Breaks (Spaced most Rest) bytes column reason
+  breaks_past {v = v} {past = past} passes small b =
+      let n = passes.number in
+      let end = passes.end in
       let w = n.within in
       let taken : length (take end bytes) ≡ end = simp length-take (omega arith) in
       let long : suc (length (decimal v) + b.place) ≡ end + b.place = omega (arith, ap length n.is) in
       let first : get_or (drop end bytes) 0 0 ≡ get_or bytes end 0 = get_or-drop end bytes 0 0 ∙ ap (λ (k : ℕ). get_or bytes k 0) (add-zero end) in
-      let past = stops_past most Rest ending small v n.fits (drop end bytes) (λ d. n.after (subst Digit first d)) b.place b.stops in
-      let k : column + end + b.place ≡ column + (end + b.place) = omega arith in
+      let stops = subst (λ (u : List ℕ). Stops Rest u b.place) passes.behind b.stops in
+      let beyond = stops_past most Rest ending small v n.fits (drop end bytes) (λ d. n.after (subst Digit first d)) b.place stops in
+      let at = passes.at in
+      let k : past + b.place ≡ column + (end + b.place) = omega arith in
       record {
         place = end + b.place;
         named = b.named ∙ ap Unreadable k;
         stops = subst (λ (u : List ℕ). Stops (Spaced most Rest) u (end + b.place)) (spaced_is n)
-            (subst (Stops (Spaced most Rest) (32 ∷ (decimal v ++ drop end bytes))) long (stops_after 32 (NumberThen most Rest) _ _ past));
+            (subst (Stops (Spaced most Rest) (32 ∷ (decimal v ++ drop end bytes))) long (stops_after 32 (NumberThen most Rest) _ _ beyond));
       }

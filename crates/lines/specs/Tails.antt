@@ -1,5 +1,5 @@
 -- What stands after the letter of a line: the languages that it is made of, and how its readers refuse.
-use Rattle.std.specs.Prelude.{◌≡◌, ℕ, ◌+◌, ◌<◌, ◌≤◌, List, [], ◌∷◌, length, take, decimal, slice_index}
+use Rattle.std.specs.Prelude.{◌≡◌, ℕ, ◌+◌, ◌<◌, ◌≤◌, List, [], ◌∷◌, ◌++◌, length, take, drop, decimal, slice_index}
 use Rattle.tables.specs.declared.refusals.Refusal.{Refusal}
 use Rattle.tables.specs.declared.refusals.Refusal.TheVariants.{Unreadable}
 use Rattle.lines.specs.Texts.{Stops}
@@ -26,6 +26,19 @@ pub record SpacedNumber (most : ℕ) (bytes : List ℕ) (value end : ℕ) : Type
   pub within : end < length bytes
   pub is : take end bytes ≡ 32 ∷ decimal value
   pub after : Digit (slice_index bytes end) → ⊥
+
+-- One space and a number of at most `most` stand in front of the bytes, the first of which stands at a column: the number's value, what is
+-- left behind it, and the column of that.
+pub record Passes (most : ℕ) (bytes : List ℕ) (column value : ℕ) (left : List ℕ) (past : ℕ) : Type 0 where
+  pub end : ℕ
+  pub number : SpacedNumber most bytes value end
+  pub behind : left ≡ drop end bytes
+  pub at : past ≡ column + end
+
+-- The bytes are one space, a number of at most `most` and the end of a line: the number's value.
+pub record LastNumber (most : ℕ) (bytes : List ℕ) (value : ℕ) : Type 0 where
+  pub fits : value ≤ most
+  pub is : 32 ∷ (decimal value ++ (10 ∷ [])) ≡ bytes
 
 -- The bytes, the first of which stands at a column, are no text of the language: the reason names the column of the first byte at which none goes on.
 pub record Breaks (Texts : List ℕ → Type 0) (bytes : List ℕ) (column : ℕ) (reason : Refusal) : Type 0 where

@@ -2,7 +2,7 @@
 
 ghost use Rattle.lines.specs.Lines.{Reads};
 
-use crate::tails::{end, last_number};
+use crate::tails::Tail;
 use tables::Refusal;
 
 /// A readable line.
@@ -27,23 +27,17 @@ pub enum Line {
 pub fn read(bytes: &[u8]) -> Result<Line, Refusal>
     ensures { Reads bytes.now result }
 {
-    if bytes.is_empty() {
+    let [letter, rest @ ..] = bytes else {
         return Err(Refusal::Unreadable(1));
-    }
-    let rest = &bytes[1..];
-    match char::from(bytes[0]) {
-        'B' => Ok(Line::Open(last_number(rest, 2)?)),
-        'A' => Ok(Line::Admit(last_number(rest, 2)?)),
-        'W' => Ok(Line::Withdraw(last_number(rest, 2)?)),
-        'M' => Ok(Line::Make(last_number(rest, 2)?)),
-        'L' => {
-            end(rest, 2)?;
-            Ok(Line::Largest)
-        }
-        'G' => {
-            end(rest, 2)?;
-            Ok(Line::Gaps)
-        }
+    };
+    let mut tail = Tail::after_letter(rest);
+    match char::from(*letter) {
+        'B' => tail.last_number().map(Line::Open),
+        'A' => tail.last_number().map(Line::Admit),
+        'W' => tail.last_number().map(Line::Withdraw),
+        'M' => tail.last_number().map(Line::Make),
+        'L' => tail.end().and(Ok(Line::Largest)),
+        'G' => tail.end().and(Ok(Line::Gaps)),
         _ => Err(Refusal::Unreadable(1)),
     }
 }

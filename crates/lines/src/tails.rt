@@ -1,48 +1,76 @@
 //! What stands after the letter of a line.
-//! Each reader is told the column of its first byte, and refuses with the column of the first byte at which no text that it reads goes on.
-//! Columns stay below 2^32, so that their sums fit: one space and a number have at most 11 bytes.
 
-ghost use Rattle.std.specs.Prelude.{◌≡◌, ◌+◌, ◌^◌, ◌<◌, [], ◌∷◌, ◌++◌, decimal, MatchResult};
+ghost use Rattle.std.specs.Prelude.{◌≡◌, ◌+◌, ◌^◌, ◌<◌, ◌≤◌, [], ◌∷◌, ◌++◌, length, drop, decimal, MatchResult};
 ghost use Rattle.lines.specs.Numbers.{Bare};
-ghost use Rattle.lines.specs.Tails.{Breaks, End, Spaced, SpacedNumber};
+ghost use Rattle.lines.specs.Tails.{Breaks, End, LastNumber, Passes, Spaced};
 
 use crate::numbers::number;
 use tables::Refusal;
 
-/// One space and a number of at most `most` in front of the bytes: the number, and where it ends.
-fn spaced_number(bytes: &[u8], column: usize, most: u32) -> Result<(u32, usize), Refusal>
-    requires { column + 11 < 2 ^ 32 }
-    ensures { MatchResult result (λ x. SpacedNumber most bytes.now x.0 x.1) (Breaks (Spaced most Bare) bytes.now column) }
-{
-    if bytes.is_empty() || bytes[0] != b' ' {
-        return Err(Refusal::Unreadable(column));
-    }
-    match number(&bytes[1..], most) {
-        Ok((value, end)) => Ok((value, end + 1)),
-        Err(place) => Err(Refusal::Unreadable(column + place + 1)),
-    }
+/// The bytes that are left of a line, and the column of the first of them.
+/// Its readers refuse with the column of the first byte at which no text that they read goes on.
+#[derive(Drop)]
+pub(crate) struct Tail<'a> {
+    bytes: &'a [u8],
+    column: usize,
+    /// Each byte that is left, and the end behind them, has a column.
+    ghost within: { column + length bytes.now < 2 ^ 64 },
 }
 
-/// One space, a number and the end of the line: the number.
-pub(crate) fn last_number(bytes: &[u8], column: usize) -> Result<u32, Refusal>
-    requires { column + 11 < 2 ^ 32 }
-    ensures { MatchResult result (λ value. 32 ∷ (decimal value ++ (10 ∷ [])) ≡ bytes.now) (Breaks (Spaced 4294967295 End) bytes.now column) }
-{
-    let (value, past) = spaced_number(bytes, column, u32::MAX)?;
-    end(&bytes[past..], column + past)?;
-    Ok(value)
-}
+impl<'a> Tail<'a> {
+    /// What stands behind the letter, which is column 1.
+    pub(crate) fn after_letter(bytes: &'a [u8]) -> Tail<'a>
+        ensures bytes { result.bytes.now ≡ bytes.now }
+        ensures column { result.column ≡ 2 }
+    {
+        Tail { bytes, column: 2 }
+    }
 
-/// The end of the line: byte 10, and nothing more.
-pub(crate) fn end(bytes: &[u8], column: usize) -> Result<(), Refusal>
-    requires { column < 2 ^ 32 }
-    ensures { MatchResult result (λ _. End bytes.now) (Breaks End bytes.now column) }
-{
-    if bytes.is_empty() || bytes[0] != b'\n' {
-        return Err(Refusal::Unreadable(column));
+    /// What is left behind the first bytes.
+    fn past(&self, count: usize) -> Tail<'a>
+        requires { count ≤ length self.now.bytes.now }
+        ensures bytes { result.bytes.now ≡ drop count self.now.bytes.now }
+        ensures column { result.column ≡ self.now.column + count }
+    {
+        Tail {
+            bytes: &self.bytes[count..],
+            column: self.column + count,
+        }
     }
-    if bytes.len() > 1 {
-        return Err(Refusal::Unreadable(column + 1));
+
+    /// Takes one space and a number of at most `most` from the front.
+    fn spaced_number(&mut self, most: u32) -> Result<u32, Refusal>
+        ensures { MatchResult result (λ value. Passes most self.old.bytes.now self.old.column value self.new.bytes.now self.new.column) (Breaks (Spaced most Bare) self.old.bytes.now self.old.column) }
+    {
+        let [b' ', digits @ ..] = self.bytes else {
+            return Err(Refusal::Unreadable(self.column));
+        };
+        match number(digits, most) {
+            Ok((value, end)) => {
+                *self = self.past(end + 1);
+                Ok(value)
+            }
+            Err(place) => Err(Refusal::Unreadable(self.column + place + 1)),
+        }
     }
-    Ok(())
+
+    /// One space, a number and the end of the line: the number.
+    pub(crate) fn last_number(&mut self) -> Result<u32, Refusal>
+        ensures { MatchResult result (LastNumber 4294967295 self.old.bytes.now) (Breaks (Spaced 4294967295 End) self.old.bytes.now self.old.column) }
+    {
+        let value = self.spaced_number(u32::MAX)?;
+        self.end()?;
+        Ok(value)
+    }
+
+    /// The end of the line: byte 10, and nothing more.
+    pub(crate) fn end(&self) -> Result<(), Refusal>
+        ensures { MatchResult result (λ _. End self.now.bytes.now) (Breaks End self.now.bytes.now self.now.column) }
+    {
+        match self.bytes {
+            [b'\n'] => Ok(()),
+            [b'\n', ..] => Err(Refusal::Unreadable(self.column + 1)),
+            _ => Err(Refusal::Unreadable(self.column)),
+        }
+    }
 }

@@ -1,3 +1,4 @@
 pub mod Ends
 pub mod Printing
+pub mod Loads
 pub mod Lines

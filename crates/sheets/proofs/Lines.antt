@@ -1,38 +1,46 @@
 -- A sheet line by line: what is printed so far, and what the lines to come will print behind it.
-use Rattle.std.proofs.Common.{◌≡◌, ℕ, ◌+◌, ◌-◌, ◌<◌, ◌≤◌, List, [], ◌∷◌, ◌++◌, length, take, drop, None, Result, sym, ap, ◌∙◌, subst, append_assoc, append-nil, arith}
-use Rattle.std.proofs.lemmas.List.{drop_all}
+use Rattle.std.proofs.Common.{◌≡◌, ℕ, ◌+◌, ◌<◌, List, [], ◌∷◌, ◌++◌, length, get_or, drop, None, Result, sym, ap, ◌∙◌, subst, append_assoc, append-nil, arith}
+use Rattle.std.specs.List.{enumerate_from}
+use Rattle.std.proofs.lemmas.List.{drop_all, drop_more}
+use Rattle.std.proofs.lemmas.List.FromFn.{length-enumerate_from, get_or-enumerate_from}
 use Rattle.tables.specs.declared.refusals.Refusal.{Refusal}
 use Rattle.sheets.specs.declared.answers.Answer.{Answer}
-use Rattle.sheets.specs.Answers.{AddsLine}
+use Rattle.sheets.specs.Answers.{AddsLine, Printed}
 use Rattle.sheets.specs.Lines.{Standing, Answers}
 use Rattle.sheets.specs.Sheets.{Prints, end, line}
-use Rattle.sheets.specs.Splitting.{lines_of}
 
-pub record Sofar (input : List ℕ) (at number : ℕ) (now : Standing) (out : List ℕ) : Type 0 where
-  pub within : at ≤ length input
-  pub few : number ≤ at
-  pub onward : (more : List ℕ) → Prints (number + 1) now (lines_of (drop at input)) more → Prints 1 None (lines_of input) (out ++ more)
+-- the line at a place, whose number counts from 0
+pub record Stands (lines : List (List ℕ)) (place number : ℕ) (bytes : List ℕ) : Type 0 where
+  pub low : place < length lines
+  pub numbered : number ≡ place
+  pub is : bytes ≡ get_or lines place bytes
 
-pub sofar_none : (input : List ℕ) → Sofar input 0 0 None []
-sofar_none input = record { within = omega arith; few = omega arith; onward = λ more rest. rest }
+pub stands : (lines : List (List ℕ)) (place number : ℕ) (bytes : List ℕ)
+    → (place < length (enumerate_from 0 lines)) × (◌≡◌ {A = ℕ × List ℕ} (number, bytes) (get_or (enumerate_from 0 lines) place (number, bytes))) → Stands lines place number bytes
+stands lines place number bytes taken =
+    let low : place < length lines = omega (arith, taken.0, length-enumerate_from 0 lines) in
+    let same : ◌≡◌ {A = ℕ × List ℕ} (number, bytes) (0 + place, get_or lines place bytes) = taken.1 ∙ get_or-enumerate_from 0 lines place (number, bytes) low in
+    record { low = low; numbered = ap (λ (p : ℕ × List ℕ). p.0) same ∙ (omega arith); is = ap (λ (p : ℕ × List ℕ). p.1) same }
 
-pub sofar_more : (input : List ℕ) (at number to : ℕ) (before after : Standing) (outcome : Result Answer Refusal) (was is : List ℕ)
-    → Sofar input at number before was → at < to → to ≤ length input
-    → lines_of (drop at input) ≡ take (to - at) (drop at input) ∷ lines_of (drop to input)
-    → Answers before (take (to - at) (drop at input)) outcome after → AddsLine (number + 1) outcome was is
-    → Sofar input to (number + 1) after is
-sofar_more input at number to before after outcome was is sofar past within split answers adds =
+-- Before the line at a place: what is printed, and then what the lines to come print, is what all the lines print.
+pub record Sofar (lines : List (List ℕ)) (count : ℕ) (now : Standing) (out : List ℕ) : Type 0 where
+  pub onward : (more : List ℕ) → Prints (count + 1) now (drop count lines) more → Prints 1 None lines (out ++ more)
+
+pub sofar_none : (lines : List (List ℕ)) → Sofar lines 0 None []
+sofar_none lines = record { onward = λ more rest. rest }
+
+pub sofar_more : (lines : List (List ℕ)) (count number : ℕ) (bytes : List ℕ) (before after : Standing) (outcome : Result Answer Refusal) (was is : List ℕ)
+    → Sofar lines count before was → Stands lines count number bytes → Answers before bytes outcome after → AddsLine (number + 1) outcome was is → Sofar lines (count + 1) after is
+sofar_more lines count number bytes before after outcome was is sofar stands answers adds =
     record {
-      within = within;
-      few = omega (arith, sofar.few);
       onward = λ more rest.
-          subst (Prints 1 None (lines_of input)) (sym (append_assoc was adds.bytes more) ∙ ap (λ bs. bs ++ more) (sym adds.is))
+          subst (Prints 1 None lines) (sym (append_assoc was adds.bytes more) ∙ ap (λ bs. bs ++ more) (sym adds.is))
           (sofar.onward (adds.bytes ++ more)
-          (subst (λ ls. Prints (number + 1) before ls (adds.bytes ++ more)) (sym split)
-          (line (number + 1) before after (take (to - at) (drop at input)) (lines_of (drop to input)) outcome adds.bytes more answers adds.printed rest)));
+          (subst (λ ls. Prints (count + 1) before ls (adds.bytes ++ more)) (sym (drop_more lines count bytes stands.low ∙ ap (λ bs. bs ∷ drop (count + 1) lines) (sym stands.is)))
+          (line (count + 1) before after bytes (drop (count + 1) lines) outcome adds.bytes more answers (subst (λ n. Printed (n + 1) outcome adds.bytes) stands.numbered adds.printed) rest)));
     }
 
-pub sofar_all : (input : List ℕ) (at number : ℕ) (now : Standing) (out : List ℕ) → Sofar input at number now out → length input ≤ at → Prints 1 None (lines_of input) out
-sofar_all input at number now out sofar past =
-    subst (Prints 1 None (lines_of input)) (append-nil out)
-    (sofar.onward [] (subst (λ rest. Prints (number + 1) now (lines_of rest) []) (sym (drop_all at input past)) (end (number + 1) now)))
+pub sofar_all : (lines : List (List ℕ)) (count : ℕ) (now : Standing) (out : List ℕ) → Sofar lines count now out → count ≡ length (enumerate_from 0 lines) → Prints 1 None lines out
+sofar_all lines count now out sofar past =
+    subst (Prints 1 None lines) (append-nil out)
+    (sofar.onward [] (subst (λ rest. Prints (count + 1) now rest []) (sym (drop_all count lines (omega (arith, past, length-enumerate_from 0 lines)))) (end (count + 1) now)))

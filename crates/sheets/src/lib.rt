@@ -3,7 +3,6 @@
 
 mod answers;
 mod sheet;
-mod splitting;
 mod whole;
 
 pub use whole::{LONGEST, answer_sheet};

@@ -8,31 +8,21 @@ ghost use Rattle.sheets.specs.Splitting.{lines_of};
 
 use crate::answers::print_line;
 use crate::sheet::Sheet;
-use crate::splitting::line_end;
 use std::alloc::Global;
 use tables::Refusal;
 
 /// How many bytes a sheet may have.
 pub const LONGEST: usize = 65_536;
 
-/// How many bytes the strip of a withdrawal has: one for each remainder by the largest base.
-const STRIP: usize = 4_096;
-
-/// What the lines of an input print, with a strip for withdrawals to work in.
-fn answer_lines(heap: Global, input: &[u8], strip: &mut [u8]) -> Result<String, Refusal>
-    requires { length strip.old ≡ 4096 }
+/// What the lines of an input print.
+fn answer_lines(heap: Global, input: &[u8]) -> Result<String, Refusal>
     ensures { MatchResult result (λ out. Prints 1 None (lines_of input.now) (string_bytes out)) (λ reason. reason ≡ NoMemory) }
 {
     let mut out = String::new(heap);
-    let mut sheet = Sheet::new();
-    let mut number = 0;
-    let mut at = 0;
-    while at < input.len() {
-        let end = line_end(input, at);
-        number += 1;
-        let outcome = sheet.answer(heap, &input[at..end], strip);
-        print_line(&mut out, number, outcome)?;
-        at = end;
+    let mut sheet = Sheet::new(heap)?;
+    for (index, line) in input.split_inclusive(|&b| b == b'\n').enumerate() {
+        let outcome = sheet.answer(line);
+        print_line(&mut out, index + 1, outcome)?;
     }
     Ok(out)
 }
@@ -56,6 +46,5 @@ pub fn answer_sheet(heap: Global, input: &[u8]) -> Result<String, Refusal>
     if input.is_empty() {
         return refuse_sheet(heap, Refusal::Unreadable(1));
     }
-    let mut strip = vec![in heap; 0; STRIP]?;
-    answer_lines(heap, input, strip.as_mut_slice())
+    answer_lines(heap, input)
 }

@@ -1,5 +1,5 @@
-use Rattle.lines.proofs.Figures.{Sofar}
+use Rattle.lines.proofs.Figures.{Read}
 use Rattle.lines.proofs.numbers.number.Given as goal
 
 abbrev pub invariant-loop-i : goal.invariant-loop-i
-invariant-loop-i l = Sofar l.most l.bytes l.i l.value
+invariant-loop-i l = Read l.most l.bytes l.i l.value

@@ -1,10 +1,8 @@
-use Rattle.std.proofs.Common.{ℕ, List, ◌++◌, string_bytes, ap, ◌∙◌, arith}
-use Rattle.sheets.proofs.Printing.{adds_line}
+use Rattle.std.proofs.Common.{string_bytes}
+use Rattle.sheets.proofs.Printing.{adds_refused}
 use Rattle.sheets.proofs.answers.print_line.Goals as goal
 
-pub returns : goal.returns
-returns c =
-    let pushed = c.in_ok-push.ensures in
-    adds_line c.args.line c.args.outcome (string_bytes c.args.out.now) (string_bytes c.write.new.self) (string_bytes c.print_outcome.new.out) _
-    c.in_ok-write.ensures.bytes c.in_ok-print_outcome.ensures
-    (pushed.bytes ∙ ap (λ (bs : List ℕ). string_bytes c.print_outcome.new.out ++ bs) (pushed.ascii (omega arith)))
+pub returns-in_ok-writeln-in-Err : goal.returns-in_ok-writeln-in-Err
+returns-in_ok-writeln-in-Err c =
+    rw c.in-Err.is (adds_refused c.args.line c.in-Err.refusal c.in_ok-refused-in-Err.refused.number c.in_ok-refused-in-Err.refused.place (string_bytes c.args.out.now) _
+    c.in_ok-refused-in-Err.ensures.0 c.in_ok-refused-in-Err.ensures.1 c.in_ok-writeln-in-Err.ensures.bytes)
