@@ -22,3 +22,4 @@ pub mod Settles
 pub mod Reaches
 pub mod Filled
 pub mod Clears
+pub mod Pointed

@@ -31,3 +31,7 @@ module _ (base : ℕ) (xs : List ℕ) (g room : ℕ) where
 
     pub withdraw_fits : has g xs ≡ true → withdraw_refusal (base ∷ xs) g room ≡ None
     withdraw_fits t = simp (le-leb base room long, ne_eqb g base apart, ne_eqb base g (λ e. apart (sym e)), t)
+
+  -- what a withdrawal is refused for is the same on any strip that is long enough
+  pub withdraw_room : (more : ℕ) → base ≤ room → base ≤ more → withdraw_refusal (base ∷ xs) g room ≡ withdraw_refusal (base ∷ xs) g more
+  withdraw_room more h l = simp (le-leb base room h, le-leb base more l)

@@ -1,7 +1,7 @@
 -- A taken load settles: its remainder is finished already, or is finished with it.
-use Rattle.std.proofs.Common.{◌≡◌, ℕ, ◌+◌, ◌-◌, ◌*◌, ◌%◌, ◌<◌, ◌≤◌, List, length, get_or, set, sym, refl, ap, ◌∙◌, subst, ⊎_elim, mod-lt, arith}
+use Rattle.std.proofs.Common.{◌≡◌, ℕ, ◌+◌, ◌-◌, ◌*◌, ◌%◌, ◌<◌, ◌≤◌, List, [], ◌∷◌, ◌++◌, length, get_or, set, sym, refl, ap, ◌∙◌, subst, ⊎_elim, mod-lt, arith}
 use native.Mathlib.Nat.{zero-mod}
-use Rattle.std.proofs.lemmas.List.{length-set, get_or-set_same, get_or-set_other}
+use Rattle.std.proofs.lemmas.List.{length_push, get_or_push, get_or_append_left, get_or-set_same, get_or-set_other}
 use Rattle.std.proofs.lemmas.Bool.{cases_lt, cases_eq}
 use Rattle.books.specs.declared.rebuild.candidates.Candidate.{Candidate}
 use Rattle.books.specs.Merges.{nobody, load_of, Waits, Under, Loads, Covered, Marked, State, Half, Ended}
@@ -39,12 +39,16 @@ module _ (sizes : List ℕ) (m : ℕ) (strip order points : List ℕ) (n : ℕ) 
         later = λ k hk. let l : x.load ≤ (get_or wl k nobody).load = h.later k hk in omega arith;
       }
 
-  module _ (room : n < length order) (long : m ≤ length strip) (fresh : get_or strip (x.load % m) 0 ≡ 1 → ⊥) (small : (u : ℕ) → get_or sizes u 0 ≤ 65535) where
-    old_load : (k : ℕ) → k < n → get_or (set order n x.load) k 0 ≡ get_or order k 0
-    old_load k lt = get_or-set_other order n k x.load 0 (λ e. omega arith)
+  module _ (grown : List ℕ) (is : grown ≡ order ++ x.load ∷ []) (all : length order ≡ n)
+      (long : m ≤ length strip) (fresh : get_or strip (x.load % m) 0 ≡ 1 → ⊥) (small : get_or sizes x.position 0 ≤ 65535) where
+    old_load : (k : ℕ) → k < n → get_or grown k 0 ≡ get_or order k 0
+    old_load k lt = ap (λ (l : List ℕ). get_or l k 0) is ∙ get_or_append_left order (x.load ∷ []) 0 k (omega arith)
 
-    new_load : get_or (set order n x.load) n 0 ≡ x.load
-    new_load = get_or-set_same order n x.load 0 room
+    pub new_load : get_or grown n 0 ≡ x.load
+    new_load = ap (λ (l : List ℕ). get_or l n 0) is ∙ get_or_push order x.load 0 n all
+
+    pub one_more : length grown ≡ n + 1
+    one_more = let e : length grown ≡ length (order ++ x.load ∷ []) = ap length is in omega (arith, length_push order x.load)
 
     rem : x.load % m < m
     rem = mod-lt x.load pos
@@ -55,21 +59,20 @@ module _ (sizes : List ℕ) (m : ℕ) (strip order points : List ℕ) (n : ℕ) 
     pub new_bound : x.load ≤ 65535 * n
     new_bound =
         let b : get_or order h.from 0 ≤ 65535 * h.from = h.so_far.bound h.from h.before in
-        let s : get_or sizes x.position 0 ≤ 65535 = small x.position in
         let f : h.from < n = h.before in
         omega (arith, h.load)
 
-    pub waits_grown : Waits (set order n x.load) points sizes (Under points n) wl
-    waits_grown = waits_same order points (set order n x.load) points sizes (Under points n) (Under points n) wl h.waits
+    pub waits_grown : Waits grown points sizes (Under points n) wl
+    waits_grown = waits_same order points grown points sizes (Under points n) (Under points n) wl h.waits
         (λ v hv a. a) (λ v hv a. a) (λ v hv a. ap (λ (l : ℕ). l + get_or sizes v 0) (sym (old_load (get_or points v 0) a)))
 
-    new_loads : Loads sizes (set order n x.load) (n + 1)
+    new_loads : Loads sizes grown (n + 1)
     new_loads =
         let some : 1 ≤ n = h.so_far.some in
         let low : (j : ℕ) → j < n → get_or order j 0 ≤ x.load = λ j lt. let a : get_or order j 0 ≤ get_or order (n - 1) 0 = h.so_far.rises j (n - 1) (omega arith) (omega arith) in let b : get_or order (n - 1) 0 ≤ x.load = h.top in omega arith in
         record {
           some = omega arith;
-          inside = rw (length-set order n x.load) (omega arith);
+          inside = omega (arith, one_more);
           first = old_load 0 some ∙ h.so_far.first;
           rises = λ j k le lt. ⊎_elim
               (λ (kn : k < n). let jn : j < n = omega arith in rw (old_load j jn, old_load k kn) (h.so_far.rises j k le kn))
@@ -88,7 +91,7 @@ module _ (sizes : List ℕ) (m : ℕ) (strip order points : List ℕ) (n : ℕ) 
               (cases_lt k n);
         }
 
-    new_marks : Marked m (set strip (x.load % m) 1) (set order n x.load) (n + 1)
+    new_marks : Marked m (set strip (x.load % m) 1) grown (n + 1)
     new_marks = record {
       taken = λ r lt e. ⊎_elim
           (λ (q : r ≡ x.load % m). (n, omega arith, rw new_load (sym q)))
@@ -115,8 +118,8 @@ module _ (sizes : List ℕ) (m : ℕ) (strip order points : List ℕ) (n : ℕ) 
     }
 
     -- the remainder is new: the load is appended, and the idle units wait again
-    pub settle_new : (wl' : List Candidate) → Waits (set order n x.load) points sizes (Under points (n + 1)) wl'
-        → State sizes m (set strip (x.load % m) 1) (set order n x.load) points (n + 1) wl'
+    pub settle_new : (wl' : List Candidate) → Waits grown points sizes (Under points (n + 1)) wl'
+        → State sizes m (set strip (x.load % m) 1) grown points (n + 1) wl'
     settle_new wl' w =
         let fn : h.from < n = h.before in
         record {
@@ -178,16 +181,16 @@ waits_none order points sizes wl e = record {
 }
 
 pub started : (sizes : List ℕ) (m : ℕ) (strip order points : List ℕ) (wl : List Candidate)
-    → 0 < m → m ≤ length strip → ((r : ℕ) → r < m → get_or strip r 0 ≡ 0) → 0 < length order → ((u : ℕ) → get_or points u 0 ≡ 0)
-    → Waits (set order 0 0) points sizes (Under points 1) wl
-    → State sizes m (set strip 0 1) (set order 0 0) points 1 wl
-started sizes m strip order points wl pos long clear room fresh w =
-    let z : get_or (set order 0 0) 0 0 ≡ 0 = get_or-set_same order 0 0 0 room in
+    → 0 < m → m ≤ length strip → ((r : ℕ) → get_or strip r 0 ≡ 0) → order ≡ 0 ∷ [] → ((u : ℕ) → get_or points u 0 ≡ 0)
+    → Waits order points sizes (Under points 1) wl
+    → State sizes m (set strip 0 1) order points 1 wl
+started sizes m strip order points wl pos long clear is fresh w =
+    let z : get_or order 0 0 ≡ 0 = ap (λ (l : List ℕ). get_or l 0 0) is in
     let one : get_or (set strip 0 1) 0 0 ≡ 1 = get_or-set_same strip 0 1 0 (omega arith) in
     record {
       so_far = record {
         some = omega arith;
-        inside = rw (length-set order 0 0) (omega arith);
+        inside = (let e : length order ≡ 1 = ap length is in omega arith);
         first = z;
         rises = λ j k le lt. let a : j ≡ 0 = omega arith in let b : k ≡ 0 = omega arith in rw (a, b) (omega arith);
         bound = λ k lt. let b : k ≡ 0 = omega arith in rw (b, z) (omega arith);
@@ -196,7 +199,7 @@ started sizes m strip order points wl pos long clear room fresh w =
       marks = record {
         taken = λ r lt e. ⊎_elim
             (λ (q : r ≡ 0). (0, omega arith, rw (z, q) (zero-mod m)))
-            (λ (q : r ≡ 0 → ⊥). let f : get_or strip r 0 ≡ 1 = sym (get_or-set_other strip 0 r 1 0 q) ∙ e in let g = clear r lt in absurd (omega arith))
+            (λ (q : r ≡ 0 → ⊥). let f : get_or strip r 0 ≡ 1 = sym (get_or-set_other strip 0 r 1 0 q) ∙ e in let g = clear r in absurd (omega arith))
             (cases_eq r 0);
         shows = λ k lt. let b : k ≡ 0 = omega arith in rw (b, z, zero-mod m) one;
         apart = λ j k lj lk e. omega arith;

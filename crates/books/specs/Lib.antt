@@ -1,6 +1,7 @@
 pub mod Units
 pub mod Rings
 pub mod Candidates
+pub mod Pointers
 pub mod Merges
 pub mod Leasts
 pub mod Strips

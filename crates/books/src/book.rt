@@ -11,18 +11,21 @@ mod filing;
 mod showing;
 mod source;
 
+/// How many units may stand beside the base.
+pub(crate) const MOST_OTHERS: usize = 15;
+
 /// A book of unit sizes.
 ///
 /// The ghost fields hold of every book, whatever calls came before: the other units ascend, are in range and are not the
 /// base; there are at most fifteen of them; the memory that the book set aside when it was opened is still there, among it the
-/// places of `order`, where a rebuild of the table puts the loads that it finds; and its entries keep the rules by which they
+/// places of `loads`, where a rebuild of the table puts the loads that it finds; and its entries keep the rules by which they
 /// are the true table of the row.
 #[derive(Drop)]
 pub struct Book {
     base: u16,
     others: Vec<u16>,
     entries: Vec<Option<u32>>,
-    order: Vec<u32>,
+    loads: Vec<u32>,
     ghost low: { 1 ≤ base },
     ghost high: { base ≤ 4096 },
     ghost sized: { Sized others.items },
@@ -33,7 +36,7 @@ pub struct Book {
     ghost room: { 15 ≤ vec_capacity others },
     ghost full: { vec_len entries ≡ base },
     ghost space: { 4096 ≤ vec_capacity entries },
-    ghost places: { vec_len order ≡ 4096 },
+    ghost places: { 4096 ≤ vec_capacity loads },
     ghost start: { entry_of entries.items 0 ≡ Some 0 },
     ghost leaves: { Leaves base (entry_of entries.items) },
     ghost closed: { AllClosed base others.items (entry_of entries.items) },

@@ -5,7 +5,7 @@
 //! taken. Where its remainder is finished already, a load as low stands for it, and only the unit's pointer moves on; else
 //! it is the least load of its remainder, and the remainder is marked in the strip.
 
-ghost use Rattle.std.specs.Prelude.{◌≡◌, ◌≤◌, ◌∷◌, length, drop, vec_len, vec_capacity};
+ghost use Rattle.std.specs.Prelude.{◌≡◌, ◌≤◌, ◌∷◌, length, vec_len, vec_capacity};
 ghost use Rattle.tables.specs.Rows.{Table};
 ghost use Rattle.tables.specs.Tables.{entry_of};
 
@@ -13,43 +13,41 @@ mod candidates;
 mod entries;
 mod marks;
 mod merges;
+mod pointers;
 
+use crate::book::MOST_OTHERS;
 use candidates::Candidate;
 use entries::enter;
 pub(crate) use marks::Marks;
-use marks::clear;
 use merges::merge;
+use pointers::{Pointer, start};
 use waiting::Waiting;
 
-/// Writes the true table of a row, by way of a strip that may hold any bytes and of places for the loads.
+/// Writes the true table of a row, by way of a strip of a byte for each remainder, whatever it holds, and of a list with
+/// places for the loads.
 fn tabulate(
     base: u32,
     others: &[u16],
     entries: &mut [Option<u32>],
     strip: &mut [u8],
-    order: &mut [u32],
+    loads: &mut Vec<u32>,
 )
     requires row { (1 ≤ base) × ((base ≤ 4096) × (length others.now ≤ 15)) }
-    requires lent { (length entries.old ≡ base) × ((base ≤ length strip.old) × (base ≤ length order.old)) }
+    requires lent { (length entries.old ≡ base) × ((length strip.old ≡ base) × (base ≤ vec_capacity loads.old)) }
     ensures table { Table (base ∷ others.now) (entry_of entries.new) }
-    ensures beyond { drop base strip.new ≡ drop base strip.old }
+    ensures capacity { vec_capacity loads.new ≡ vec_capacity loads.old }
 {
-    clear(strip, base as usize);
-    let mut points = [0; 15];
+    let mut pointers = [Pointer { size: 0, at: 0 }; MOST_OTHERS];
+    let pointers = &mut pointers[..others.len()];
+    start(pointers, others);
     let mut slots = [Candidate {
         load: 0,
         position: 0,
-    }; 15];
+    }; MOST_OTHERS];
     let mut waiting = Waiting::over(&mut slots);
-    let n = merge(
-        others,
-        base,
-        strip,
-        order,
-        &mut points[0..others.len()],
-        &mut waiting,
-    );
-    enter(base, order, n, entries);
+    strip.fill(0);
+    merge(base, strip, loads, pointers, &mut waiting);
+    enter(base, loads.as_slice(), entries);
 }
 
 /// The same over a row and a table that are held in vectors, whose lengths and capacities stay.
@@ -58,21 +56,20 @@ pub(crate) fn rebuild(
     others: &Vec<u16>,
     entries: &mut Vec<Option<u32>>,
     strip: &mut [u8],
-    order: &mut Vec<u32>,
+    loads: &mut Vec<u32>,
 )
     requires row { (1 ≤ base) × ((base ≤ 4096) × (vec_len others.now ≤ 15)) }
-    requires lent { (vec_len entries.old ≡ base) × ((base ≤ length strip.old) × (base ≤ vec_len order.old)) }
+    requires lent { (vec_len entries.old ≡ base) × ((length strip.old ≡ base) × (base ≤ vec_capacity loads.old)) }
     ensures table { Table (base ∷ others.now.items) (entry_of entries.new.items) }
-    ensures beyond { drop base strip.new ≡ drop base strip.old }
     ensures len { vec_len entries.new ≡ vec_len entries.old }
     ensures capacity { vec_capacity entries.new ≡ vec_capacity entries.old }
-    ensures places { vec_len order.new ≡ vec_len order.old }
+    ensures places { vec_capacity loads.new ≡ vec_capacity loads.old }
 {
     tabulate(
         base,
         others.as_slice(),
         entries.as_mut_slice(),
         strip,
-        order.as_mut_slice(),
+        loads,
     );
 }

@@ -1,22 +1,21 @@
 //! The waiting list, and what can wait in it.
 
-ghost use Rattle.std.specs.Prelude.{◌≡◌, ◌-◌, ◌<◌, ◌≤◌, Bool, false, [], length, take, ◌==◌};
+ghost use Rattle.std.specs.Prelude.{◌≡◌, ◌-◌, ◌<◌, ◌≤◌, Bool, false, [], length, take, All, IfNone, IfSome, Some, slice_get, ◌==◌};
 ghost use Rattle.std.specs.Cmp.{IsStrictWeakOrder};
-ghost use Rattle.std.specs.List.{IsFirstBest};
-ghost use Rattle.waiting.specs.Lists.{Least, Put, Taken, room, waits};
+ghost use Rattle.std.specs.Ordering.{is_lt};
+ghost use Rattle.waiting.specs.Lists.{Put, Taken, room, waits};
 
 use tables::Refusal;
 
 /// What can wait: values of a kind that has a total order, in which different ones never tie.
 ///
-/// The order is told by the ghost member `before`. Whoever adds a kind shows that `before` is an order (`ranks`), that
-/// two values of which neither is before the other are the same value (`apart`), and that `precedes` answers it.
-pub trait Queued: Copy {
+/// The order is told by the ghost member `before`. Whoever adds a kind shows that `before` is what its `Ord` answers by
+/// (`ordered`), that it is an order (`ranks`), and that two values of which neither is before the other are the same value
+/// (`apart`).
+pub trait Queued: Copy + Ord {
     ghost before: { Self → Self → Bool };
 
-    /// Whether this one is before the other.
-    fn precedes(&self, other: &Self) -> bool
-        ensures { result ≡ before self.now other.now };
+    ghost ordered: { (x y : Self) → before x y ≡ is_lt (Self.cmp x y) };
 
     ghost ranks: { IsStrictWeakOrder before };
 
@@ -27,36 +26,32 @@ pub trait Queued: Copy {
 ///
 /// What waits stands in the first `len` slots, or in all of them where there are fewer: so each value of this type is a
 /// list, and none of the calls asks anything. What the slots past them hold says nothing.
+// The length stands beside the slots, which are lent, so that a list needs no heap.
 #[derive(Drop)]
 pub struct Waiting<'a, T> {
     slots: &'a mut [T],
     len: usize,
 }
 
-/// The place of the least among the first `n`: the first such place, where several hold it.
-fn first_place<T: Queued>(slots: &[T], n: usize) -> usize
-    requires { (0 < n) × (n ≤ length slots.now) }
-    ensures { IsFirstBest T.before slots.now n result }
+/// The least and its place, if there is one.
+fn least<T: Queued>(slots: &[T]) -> Option<(usize, T)>
+    ensures none { IfNone result (slots.now ≡ []) }
+    ensures inside { IfSome result (λ p. p.0 < length slots.now) }
+    ensures there { IfSome result (λ p. slice_get slots.now p.0 ≡ Some p.1) }
+    ensures least { IfSome result (λ p. All (λ x. is_lt (T.cmp x p.1) ≡ false) slots.now) }
 {
-    let mut best = 0;
-    for i in 1..n {
-        if slots[i].precedes(&slots[best]) {
-            best = i;
-        }
-    }
-    best
+    slots.iter().copied().enumerate().min_by_key(|&(_, x)| x)
 }
 
-/// The least among the first `n`. The last of them goes to its place, so that the others are the first `n - 1`.
-fn take_out<T: Queued>(slots: &mut [T], n: usize) -> T
-    requires { (0 < n) × (n ≤ length slots.old) }
-    ensures { Least T.before (take n slots.old) (take (n - 1) slots.new) result }
+/// Takes the least of the first `n` out, if there is one. The last of them goes to its place, so that the others are the
+/// first `n - 1`.
+fn take_least<T: Queued>(slots: &mut [T], n: usize) -> Option<T>
+    requires { n ≤ length slots.old }
+    ensures { Taken T.before (take n slots.old) (take (n - 1) slots.new) result }
 {
-    let best = first_place(slots, n);
-    let x = slots[best];
-    let last = slots[n - 1];
-    slots[best] = last;
-    x
+    let (place, x) = least(&slots[..n])?;
+    slots[place] = slots[n - 1];
+    Some(x)
 }
 
 impl<'a, T: Queued> Waiting<'a, T> {
@@ -107,10 +102,8 @@ impl<'a, T: Queued> Waiting<'a, T> {
         ensures same { self.new.slots.ghost_name ≡ self.old.slots.ghost_name }
     {
         let n = self.len();
-        if n == 0 {
-            return None;
-        }
+        let least = take_least(self.slots, n)?;
         self.len = n - 1;
-        Some(take_out(self.slots, n))
+        Some(least)
     }
 }

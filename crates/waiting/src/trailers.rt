@@ -1,13 +1,12 @@
 //! Trailers, which wait by minute, then by line, then by load.
 
-ghost use Rattle.std.specs.Prelude.{◌≡◌};
-ghost use Rattle.waiting.specs.Trailers.{earlier, earlier_apart, earlier_ranks};
+ghost use Rattle.waiting.specs.Trailers.{earlier, earlier_apart, earlier_ordered, earlier_ranks};
 
 use crate::list::Queued;
 
 /// A trailer that waits. The lower minute comes first, at the same minute the lower line, and at the same line too the
 /// lower load: so two that differ never tie.
-#[derive(Clone, Copy, PartialEq, Eq, Debug)]
+#[derive(Clone, Copy, PartialEq, Eq, PartialOrd, Ord, Debug)]
 pub struct Trailer {
     pub minute: u32,
     pub line: usize,
@@ -17,17 +16,9 @@ pub struct Trailer {
 impl Queued for Trailer {
     ghost before = { earlier };
 
+    ghost ordered = { earlier_ordered };
+
     ghost ranks = { earlier_ranks };
 
     ghost apart = { earlier_apart };
-
-    fn precedes(&self, other: &Trailer) -> bool {
-        if self.minute != other.minute {
-            self.minute < other.minute
-        } else if self.line != other.line {
-            self.line < other.line
-        } else {
-            self.load < other.load
-        }
-    }
 }

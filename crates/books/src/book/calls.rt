@@ -6,7 +6,7 @@ ghost use Rattle.books.specs.Books.{row_of, table_of};
 ghost use Rattle.books.specs.Calls.{Admits, Opens, Withdraws};
 ghost use Rattle.books.specs.Strips.{StripLeft};
 
-use super::Book;
+use super::{Book, MOST_OTHERS};
 use crate::rebuild::{Marks, rebuild};
 use crate::rings::extend;
 use crate::sizes::find;
@@ -18,9 +18,6 @@ const LARGEST_BASE: u32 = 4_096;
 
 /// The largest size that any other unit may have.
 const LARGEST_SIZE: u32 = 65_535;
-
-/// How many units may stand beside the base.
-const MOST_OTHERS: usize = 15;
 
 /// Writes the entries of a base alone: 0 at 0, and no other.
 fn begin(entries: &mut Vec<Option<u32>>, base: u16)
@@ -47,14 +44,14 @@ impl Book {
         }
         let others = Vec::with_capacity(heap, MOST_OTHERS)?;
         let mut entries = Vec::with_capacity(heap, LARGEST_BASE as usize)?;
-        let order = vec![in heap; 0; LARGEST_BASE as usize]?;
+        let loads = Vec::with_capacity(heap, LARGEST_BASE as usize)?;
         let base = base as u16;
         begin(&mut entries, base);
         Ok(Book {
             base,
             others,
             entries,
-            order,
+            loads,
         })
     }
 
@@ -93,7 +90,17 @@ impl Book {
         if strip.len() < m {
             return Err(Refusal::NoRoom(m));
         }
-        let marks = Marks { strip, m };
+        self.take_out(size, &mut strip[..m])
+    }
+
+    /// The same over a strip of just a byte for each remainder.
+    fn take_out(&mut self, size: u32, strip: &mut [u8]) -> Result<(), Refusal>
+        requires { length strip.old ≡ self.old.base }
+        ensures turns { Withdraws self.old size (length strip.old) result self.new }
+        ensures strip { StripLeft self.old.base strip.old strip.new result }
+        ensures table { Table (row_of self.new) (table_of self.new) }
+    {
+        let marks = Marks { strip };
         let base = u32::from(self.base);
         if size == base {
             return Err(Refusal::IsBase(size));
@@ -107,7 +114,7 @@ impl Book {
             &self.others,
             &mut self.entries,
             marks.strip,
-            &mut self.order,
+            &mut self.loads,
         );
         Ok(())
     }

@@ -1,9 +1,12 @@
-use Rattle.std.proofs.Common.{◌≡◌, ℕ, ◌+◌, ◌-◌, ◌*◌, ◌<◌, ◌≤◌, List, length, get_or, sum, refl, ap, ◌∙◌, arith, drop-set-lt}
+use Rattle.std.proofs.Common.{◌≡◌, ℕ, ◌+◌, ◌-◌, ◌*◌, ◌<◌, ◌≤◌, List, [], ◌∷◌, ◌++◌, length, get_or, set, sum, sym, refl, ap, ◌∙◌, subst, arith}
 use Rattle.std.proofs.ByRecursion.{sum_by_le, All-from_get_or}
-use Rattle.std.proofs.lemmas.List.{length-set, get_or-set_same}
+use Rattle.std.proofs.lemmas.List.{length-set}
 use Rattle.waiting.specs.Lists.{room, waits}
-use Rattle.books.specs.Merges.{Turning}
-use Rattle.books.proofs.Served.{turn_unit, turn_under}
+use Rattle.books.specs.Leasts.{Leasts}
+use Rattle.books.specs.Merges.{State, Turning, Waits, Under}
+use Rattle.books.specs.Pointers.{places_of, sizes_of}
+use Rattle.books.specs.Units.{Small}
+use Rattle.books.proofs.Pointed.{place_units, size_units}
 use Rattle.books.proofs.Settles.{started, closed_from, marked_fits, waits_none}
 use Rattle.books.proofs.Reaches.{leasts_from}
 use Rattle.books.proofs.rebuild.merges.merge.Goals as goal
@@ -15,64 +18,84 @@ less points points' units room e h s =
     let c : sum points' ≤ units * room = rw e at b in
     omega arith
 
+pub push_reserved-requires : goal.push_reserved-requires
+push_reserved-requires c = omega (arith, c.clear.ensures.len, c.clear.ensures.capacity, c.requires.shape.1.0, c.requires.shape.1.1.1)
+
 pub refill-requires : goal.refill-requires
-refill-requires c = record {
-  shape = (
-    c.requires.shape.0,
-    (
-      rw length-set (omega (arith, c.requires.shape.1.1.0, c.requires.shape.1.1.1.1)),
-      (rw (get_or-set_same c.args.order.now 0 0 0 (omega (arith, c.requires.shape.1.1.0, c.requires.shape.1.1.1.1))) (omega arith), c.requires.places),
-    ),
-  );
-  waits = waits_none _ _ _ _ (ap length c.requires.empty);
-}
+refill-requires c =
+    let is : c.as_slice.result.now ≡ 0 ∷ []
+    = c.as_slice.ensures.value ∙ (c.push_reserved.ensures.items ∙ ap (λ (l : List ℕ). l ++ 0 ∷ []) c.clear.ensures.items) in
+    let one : length c.as_slice.result.now ≡ 1 = ap length is in
+    let newest : get_or c.as_slice.result.now 0 0 ≡ 0 = ap (λ (l : List ℕ). get_or l 0 0) is in
+    let last : length c.as_slice.result.now - 1 ≡ 0 = omega arith in
+    record {
+      some = omega arith;
+      low = rw last (omega arith);
+      places = c.requires.places;
+      waits = rw last (waits_none _ _ _ _ (ap length c.requires.empty));
+    }
 
 pub loop-x-init : goal.loop-x-init
-loop-x-init c = (
-  refl,
-  refl,
-  started c.args.sizes.now c.args.m c.args.strip.now c.args.order.now c.args.points.now _
-      c.requires.shape.1.1.0 c.requires.shape.1.1.1.0 c.requires.unmarked (omega (arith, c.requires.shape.1.1.0, c.requires.shape.1.1.1.1)) c.requires.fresh c.refill.ensures.waits,
-)
+loop-x-init c =
+    let is : c.push_reserved.new.self.items ≡ 0 ∷ [] = c.push_reserved.ensures.items ∙ ap (λ (l : List ℕ). l ++ 0 ∷ []) c.clear.ensures.items in
+    let one : length c.push_reserved.new.self.items ≡ 1 = ap length is in
+    let ps = c.args.pointers.now in
+    let served : Waits c.push_reserved.new.self.items (places_of ps) (sizes_of ps) (Under (places_of ps) 1) (waits c.refill.new.waiting)
+    = subst (λ (k : ℕ). Waits c.push_reserved.new.self.items (places_of ps) (sizes_of ps) (Under (places_of ps) k) (waits c.refill.new.waiting)) one
+    (subst (λ (l : List ℕ). Waits l (places_of ps) (sizes_of ps) (Under (places_of ps) (length l)) (waits c.refill.new.waiting)) c.as_slice.ensures.value c.refill.ensures.waits) in
+    record {
+      places = refl;
+      capacity = refl;
+      sizes = refl;
+      state =
+          subst (λ (k : ℕ). State (sizes_of ps) c.args.base (set c.args.strip.now 0 1) c.push_reserved.new.self.items (places_of ps) k (waits c.refill.new.waiting)) (sym one)
+          (started (sizes_of ps) c.args.base c.args.strip.now c.push_reserved.new.self.items (places_of ps) _
+          c.requires.shape.1.0 (omega (arith, c.requires.shape.1.1.0)) c.requires.unmarked is c.requires.fresh served);
+    }
 
-pub turn-n-requires : goal.turn-n-requires
-turn-n-requires c =
-    let t : Turning c.args.sizes.now c.args.m c.loop-x.strip c.loop-x.order c.loop-x.points c.loop-x.n c.in-Some.x (waits c.take.new.self)
-    = record { old = waits c.loop-x.waiting; state = c.loop-x.invariant.2; out = c.in-Some.ensures.value } in
+pub turn-requires : goal.turn-requires
+turn-requires c =
+    let inv = c.loop-x.invariant in
+    let t : Turning (sizes_of c.loop-x.pointers) c.args.base c.loop-x.strip c.loop-x.loads.items (places_of c.loop-x.pointers) (length c.loop-x.loads.items) c.in-Some.x (waits c.take.new.self)
+    = record { old = waits c.loop-x.waiting; state = inv.state; out = c.in-Some.ensures.value } in
     record {
       shape = (
-        omega (arith, c.loop-x.auto.points, c.requires.shape.0),
+        c.requires.shape.0,
         (
           c.requires.shape.1.0,
           (
-            c.requires.shape.1.1.0,
-            (
-              omega (arith, c.loop-x.auto.strip, length-set c.args.strip.now 0 1, c.requires.shape.1.1.1.0),
-              omega (arith, c.loop-x.auto.order, length-set c.args.order.now 0 0, c.requires.shape.1.1.1.1),
-            ),
+            omega (arith, c.requires.shape.1.1.0, c.loop-x.auto.strip, length-set c.args.strip.now 0 1),
+            omega (arith, c.requires.shape.1.1.1, inv.capacity, c.push_reserved.ensures.capacity, c.clear.ensures.capacity),
           ),
         ),
       );
-      places = omega (arith, c.requires.places, c.refill.ensures.size, c.loop-x.invariant.0, c.in-Some.ensures.size);
-      unit = (turn_unit _ _ _ _ _ _ _ _ t, (turn_under _ _ _ _ _ _ _ _ t, marked_fits _ _ _ _ c.requires.shape.1.1.0 c.loop-x.invariant.2.marks));
+      places = omega (arith, c.requires.places, c.refill.ensures.size, inv.places, c.in-Some.ensures.size, c.loop-x.auto.pointers);
+      small = subst Small (sym inv.sizes) c.requires.small;
       turning = t;
     }
 
 pub loop-x-preserved : goal.loop-x-preserved
-loop-x-preserved c = (
-  c.turn-n.ensures.size ∙ (c.in-Some.ensures.size ∙ c.loop-x.invariant.0),
-  c.turn-n.ensures.beyond ∙ c.loop-x.invariant.1,
-  c.turn-n.ensures.state,
-)
+loop-x-preserved c =
+    let inv = c.loop-x.invariant in
+    record {
+      places = c.turn.ensures.size ∙ (c.in-Some.ensures.size ∙ inv.places);
+      capacity = c.turn.ensures.capacity ∙ inv.capacity;
+      sizes = c.turn.ensures.sizes ∙ inv.sizes;
+      state = c.turn.ensures.state;
+    }
 
 pub loop-x-smaller : goal.loop-x-smaller
-loop-x-smaller c = less c.loop-x.points c.turn-n.new.points (length c.args.sizes.now) _
-    (omega (arith, c.turn-n.auto.points, c.loop-x.auto.points, c.requires.shape.0))
-    (λ u h. let s = c.turn-n.ensures.state in omega (arith, s.upto u h, s.so_far.inside, c.turn-n.auto.order, c.loop-x.auto.order))
-    c.turn-n.ensures.steps
+loop-x-smaller c =
+    let s = c.turn.ensures.state in
+    less (places_of c.loop-x.pointers) (places_of c.turn.new.pointers) (length c.args.pointers.now) c.args.base
+    (place_units c.turn.new.pointers ∙ (c.turn.auto.pointers ∙ c.loop-x.auto.pointers))
+    (λ u h. omega (arith, s.upto u (omega (arith, size_units c.turn.new.pointers, c.turn.auto.pointers, c.loop-x.auto.pointers)), marked_fits _ _ _ _ c.requires.shape.1.0 s.marks))
+    c.turn.ensures.steps
 
 pub returns : goal.returns
 returns c = record {
-  loads = leasts_from _ _ _ _ (closed_from _ _ _ _ _ _ _ c.loop-x.invariant.2 (ap length c.in_default.ensures.value.0));
-  beyond = c.loop-x.invariant.1 ∙ drop-set-lt c.args.m c.args.strip.now 0 1 c.requires.shape.1.1.0;
+  loads =
+      subst (λ (ss : List ℕ). Leasts c.args.base ss c.loop-x.loads.items (length c.loop-x.loads.items)) c.loop-x.invariant.sizes
+      (leasts_from _ _ _ _ (closed_from _ _ _ _ _ _ _ c.loop-x.invariant.state (ap length c.in_default.ensures.value.0)));
+  capacity = c.loop-x.invariant.capacity ∙ (c.push_reserved.ensures.capacity ∙ c.clear.ensures.capacity);
 }

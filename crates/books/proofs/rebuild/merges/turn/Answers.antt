@@ -1,94 +1,185 @@
-use Rattle.std.proofs.Common.{◌≡◌, ℕ, ◌+◌, ◌-◌, ◌*◌, ◌%◌, ◌<◌, ◌≤◌, List, length, get_or, set, sum, refl, ◌∙◌, mod-lt, arith, drop-set-lt}
+use Rattle.std.proofs.Common.{◌≡◌, ℕ, ◌+◌, ◌-◌, ◌*◌, ◌%◌, ◌<◌, ◌≤◌, List, [], ◌∷◌, ◌++◌, length, get_or, set, sum, sym, refl, ap, ◌∙◌, subst, mod-lt, arith}
 use Rattle.std.proofs.lemmas.List.Sums.{sum_by-set}
-use Rattle.std.proofs.lemmas.List.{length-set, get_or-set_same}
+use Rattle.std.proofs.lemmas.List.{get_or_default, set-get_or}
 use Rattle.waiting.specs.Lists.{room, waits}
 use Rattle.books.specs.declared.rebuild.candidates.Candidate.{Candidate}
-use Rattle.books.specs.Merges.{Half}
+use Rattle.books.specs.Merges.{Half, State, Waits, Under}
+use Rattle.books.specs.Pointers.{places_of, sizes_of}
+use Rattle.books.proofs.Pointed.{no_one, moved, moved_places, moved_sizes, place_at, place_units, size_at, size_units}
 use Rattle.books.proofs.Puts.{put_fits, put_lands}
-use Rattle.books.proofs.Served.{half_put, half_idle, half_room}
-use Rattle.books.proofs.Settles.{marked_spare, settle_old, settle_new, waits_grown, new_bound}
+use Rattle.books.proofs.Served.{half_put, half_idle, half_room, turn_unit}
+use Rattle.books.proofs.Settles.{marked_fits, marked_spare, settle_old, settle_new, waits_grown, new_bound, new_load, one_more}
 use Rattle.books.proofs.rebuild.merges.turn.Goals as goal
-use Rattle.books.proofs.rebuild.merges.turn.Goals.{then-next-n, else-next-n, Joined-next-n}
+use Rattle.books.proofs.rebuild.merges.turn.Goals.{in-Some, in_default, Joined-get, In-Some}
 
 sum_moved : (points : List ℕ) (i : ℕ) → i < length points → sum (set points i (get_or points i 0 + 1)) ≡ sum points + 1
 sum_moved points i h = omega (arith, sum_by-set (λ x. x) points i (get_or points i 0 + 1) 0 h)
 
+-- what a read of the loads found
+found : (loads read : List ℕ) (k x : ℕ) → read ≡ loads → k < length read → x ≡ get_or read k x → (k < length loads) × (x ≡ get_or loads k 0)
+found loads read k x same h is =
+    let long : length read ≡ length loads = ap length same in
+    (omega arith, is ∙ (ap (λ (l : List ℕ). get_or l k x) same ∙ get_or_default loads k x 0 (omega arith)))
+
 pub unwrap-requires : goal.unwrap-requires
 unwrap-requires c =
-    put_fits _ _ _ _ _ (omega (arith, c.requires.places, half_room _ _ _ _ _ _ _ _ c.requires.turning c.requires.shape.0 c.if-next-n.true)) c.put.ensures.value
+    let ps = c.args.pointers.now in
+    let i = c.args.x.position in
+    let l = c.in-Some.ensures.lookup in
+    let f = found c.args.loads.now.items c.deref.result.now _ c.in-Some.field-0.now c.deref.ensures.value l.3.0 l.1 in
+    put_fits _ _ _ _ _
+    (omega (
+      arith,
+      c.requires.places,
+      size_units ps,
+      half_room _ _ _ _ _ _ _ _ c.requires.turning (place_units ps ∙ sym (size_units ps)) (omega (arith, f.0, place_at ps i)),
+    )) c.put.ensures.value
+
+pub overflow_add-load : goal.overflow_add-load
+overflow_add-load c =
+    let ps = c.args.pointers.now in
+    let i = c.args.x.position in
+    let l = c.in-Some.ensures.lookup in
+    let f = found c.args.loads.now.items c.deref.result.now _ c.in-Some.field-0.now c.deref.ensures.value l.3.0 l.1 in
+    let s = c.requires.turning.state in
+    omega (
+      arith,
+      f.1,
+      s.so_far.bound ((get_or ps i no_one).at + 1) f.0,
+      marked_fits _ _ _ _ c.requires.shape.1.0 s.marks,
+      c.requires.shape.0,
+      c.requires.small i (turn_unit _ _ _ _ _ _ _ _ c.requires.turning),
+      size_at ps i,
+      c.from.ensures,
+      f.0,
+    )
 
 -- the pointer has moved, whichever way
-ready : (c : goal.Joined-next-n)
-    → Half c.args.sizes.now c.args.m c.args.strip.now c.args.order.now
-    (set c.args.points.now c.args.x.position (get_or c.args.points.now c.args.x.position 0 + 1)) c.args.n c.args.x
-    (waits c.if-next-n.waiting)
-    × (room c.if-next-n.waiting ≡ room c.args.waiting.now)
-ready c = elim c.if-next-n.branch [
-  | then-next-n w ↦
-      let free : length (waits c.args.waiting.now) < room c.args.waiting.now
-      = omega (arith, c.requires.places, half_room _ _ _ _ _ _ _ _ c.requires.turning c.requires.shape.0 w.if-next-n.true) in
-      let y : Candidate = record { load = get_or c.args.order.now (get_or c.args.points.now c.args.x.position 0 + 1) 0 + w.from.result; position = c.args.x.position } in
-      rw w.waiting-is (
-        half_put _ _ _ _ _ _ _ _ c.requires.turning c.requires.shape.0 y _ (put_lands _ _ _ _ w.put.result free w.put.ensures.value) w.if-next-n.true refl (omega arith),
-        w.put.ensures.size,
+move : (c : Joined-get) → c.match-get.pointers ≡ moved c.args.pointers.now c.args.x.position
+move c = elim c.match-get.branch [ in-Some w ↦ w.pointers-is | in_default w ↦ w.pointers-is ]
+
+sizes : (c : Joined-get) → sizes_of c.match-get.pointers ≡ sizes_of c.args.pointers.now
+sizes c = ap sizes_of (move c) ∙ moved_sizes c.args.pointers.now c.args.x.position
+
+places : (c : Joined-get) → places_of c.match-get.pointers ≡ set (places_of c.args.pointers.now) c.args.x.position (get_or (places_of c.args.pointers.now) c.args.x.position 0 + 1)
+places c = ap places_of (move c) ∙ moved_places c.args.pointers.now c.args.x.position
+
+-- and the next candidate of its unit waits, where there is one
+ready : (c : Joined-get)
+    → Half (sizes_of c.match-get.pointers) c.args.base c.args.strip.now c.args.loads.now.items (places_of c.match-get.pointers)
+    (length c.args.loads.now.items) c.args.x (waits c.match-get.waiting)
+    × (room c.match-get.waiting ≡ room c.args.waiting.now)
+ready c =
+    let ps = c.args.pointers.now in
+    let i = c.args.x.position in
+    let at : get_or (places_of ps) i 0 ≡ _ = place_at ps i in
+    let same_long : length (places_of ps) ≡ length (sizes_of ps) = place_units ps ∙ sym (size_units ps) in
+    let there = λ (wl : List Candidate)
+    (h : Half (sizes_of ps) c.args.base c.args.strip.now c.args.loads.now.items (set (places_of ps) i (get_or (places_of ps) i 0 + 1)) (length c.args.loads.now.items) c.args.x wl).
+    subst (λ (ss : List ℕ). Half ss c.args.base c.args.strip.now c.args.loads.now.items (places_of c.match-get.pointers) (length c.args.loads.now.items) c.args.x wl) (sym (sizes c))
+    (subst (λ (pts : List ℕ). Half (sizes_of ps) c.args.base c.args.strip.now c.args.loads.now.items pts (length c.args.loads.now.items) c.args.x wl) (sym (places c)) h) in
+    elim c.match-get.branch [
+      | in-Some w ↦
+          let l = w.in-Some.ensures.lookup in
+          let f = found c.args.loads.now.items c.deref.result.now _ w.in-Some.field-0.now c.deref.ensures.value l.3.0 l.1 in
+          let more : get_or (places_of ps) i 0 + 1 < length c.args.loads.now.items = omega (arith, f.0, at) in
+          let free : length (waits c.args.waiting.now) < room c.args.waiting.now
+          = omega (arith, c.requires.places, size_units ps, half_room _ _ _ _ _ _ _ _ c.requires.turning same_long more) in
+          let y : Candidate = record { load = w.in-Some.field-0.now + w.from.result; position = i } in
+          let from : w.in-Some.field-0.now ≡ get_or c.args.loads.now.items (get_or (places_of ps) i 0 + 1) 0
+          = f.1 ∙ ap (λ (k : ℕ). get_or c.args.loads.now.items (k + 1) 0) (sym at) in
+          rw w.waiting-is (
+            there _ (half_put _ _ _ _ _ _ _ _ c.requires.turning same_long y _ (put_lands _ _ _ _ w.put.result free w.put.ensures.value) more refl
+                (omega (arith, from, w.from.ensures, size_at ps i))),
+            w.put.ensures.size,
+          )
+      | in_default w ↦ rw w.waiting-is (
+        there _ (half_idle _ _ _ _ _ _ _ _ c.requires.turning same_long
+            (let l = w.in_default.ensures.lookup in let long : length c.deref.result.now ≡ length c.args.loads.now.items = ap length c.deref.ensures.value in omega (arith, at, l.3))),
+        refl,
       )
-  | else-next-n w ↦ rw w.waiting-is (half_idle _ _ _ _ _ _ _ _ c.requires.turning c.requires.shape.0 w.if-next-n.false, refl)
-]
+    ]
 
 -- an unmarked remainder leaves room for its load
-unfinished : (c : goal.Joined-next-n) → (get_or c.args.strip.now (c.args.x.load % c.args.m) 0 ≡ 1 → ⊥) → c.args.n < c.args.m
+unfinished : (c : Joined-get) → (get_or c.args.strip.now (c.args.x.load % c.args.base) 0 ≡ 1 → ⊥) → length c.args.loads.now.items < c.args.base
 unfinished c fresh =
-    marked_spare c.args.m c.args.strip.now c.args.order.now c.args.n (c.args.x.load % c.args.m)
-    c.requires.shape.1.1.0 (ready c).0.marks (mod-lt c.args.x.load c.requires.shape.1.1.0) fresh
+    marked_spare c.args.base c.args.strip.now c.args.loads.now.items (length c.args.loads.now.items) (c.args.x.load % c.args.base)
+    c.requires.shape.1.0 (ready c).0.marks (mod-lt c.args.x.load c.requires.shape.1.0) fresh
 
-pub returns-then-strip-r-eq1 : goal.returns-then-strip-r-eq1
-returns-then-strip-r-eq1 c =
-    let p = ready (goal.at.returns-then-strip-r-eq1 c).Joined-next-n in
+-- the pointer of one unit has moved by one
+step : (c : Joined-get) → sum (places_of c.match-get.pointers) ≡ sum (places_of c.args.pointers.now) + 1
+step c =
+    ap sum (places c)
+    ∙ sum_moved (places_of c.args.pointers.now) c.args.x.position
+    (omega (arith, place_units c.args.pointers.now, size_units c.args.pointers.now, turn_unit _ _ _ _ _ _ _ _ c.requires.turning))
+
+small : (c : Joined-get) → get_or (sizes_of c.match-get.pointers) c.args.x.position 0 ≤ 65535
+small c =
+    let i = c.args.x.position in
+    subst (λ (ss : List ℕ). get_or ss i 0 ≤ 65535) (sym (sizes c)) (c.requires.small i (turn_unit _ _ _ _ _ _ _ _ c.requires.turning))
+
+pub returns-then-mark-eq1 : goal.returns-then-mark-eq1
+returns-then-mark-eq1 c =
+    let j = (goal.at.returns-then-mark-eq1 c).Joined-get in
+    let p = ready j in
+    let r : ℕ = c.args.x.load % c.args.base in
     record {
-      state = settle_old _ _ _ _ _ _ _ _ p.0 c.requires.shape.1.1.0 c.if-strip-r-eq1.true;
-      later = p.0.later;
-      steps = sum_moved c.args.points.now c.args.x.position (omega (arith, c.requires.shape.0, c.requires.unit.0));
-      beyond = refl;
+      state =
+          subst (λ (st : List ℕ). State (sizes_of c.match-get.pointers) c.args.base st c.args.loads.now.items (places_of c.match-get.pointers) (length c.args.loads.now.items) (waits c.match-get.waiting))
+          (sym (set-get_or c.args.strip.now r 0)) (settle_old _ _ _ _ _ _ _ _ p.0 c.requires.shape.1.0 c.if-mark-eq1.true);
+      sizes = sizes j;
+      steps = step j;
+      capacity = refl;
       size = p.1;
     }
 
-pub bounds-order-n : goal.bounds-order-n
-bounds-order-n c =
-    omega (arith, c.requires.shape.1.1.1.1, unfinished (goal.at.bounds-order-n c).Joined-next-n c.if-strip-r-eq1.false)
+pub push_reserved-requires : goal.push_reserved-requires
+push_reserved-requires c =
+    omega (arith, c.args.loads.now.ok.0, c.requires.shape.1.1.1, unfinished (goal.at.push_reserved-requires c).Joined-get c.if-mark-eq1.false)
 
 pub refill-requires : goal.refill-requires
 refill-requires c =
-    let p = ready (goal.at.refill-requires c).Joined-next-n in
-    let less : c.args.n < c.args.m = unfinished (goal.at.refill-requires c).Joined-next-n c.if-strip-r-eq1.false in
-    let free : c.args.n < length c.args.order.now = omega (arith, less, c.requires.shape.1.1.1.1) in
-    let small : (u : ℕ) → get_or c.args.sizes.now u 0 ≤ 65535 = λ u. omega (arith, c.type_inv.sizes u) in
-    let bound : c.args.x.load ≤ 65535 * c.args.n
-    = new_bound _ _ _ _ _ _ _ _ p.0 c.requires.shape.1.1.0 free c.requires.shape.1.1.1.0 c.if-strip-r-eq1.false small in
+    let j = (goal.at.refill-requires c).Joined-get in
+    let p = ready j in
+    let old = c.args.loads.now.items in
+    let grown : List ℕ = c.as_slice.result.now in
+    let n : ℕ = length old in
+    let less : n < c.args.base = unfinished j c.if-mark-eq1.false in
+    let is : grown ≡ old ++ c.args.x.load ∷ [] = c.as_slice.ensures.value ∙ c.push_reserved.ensures.items in
+    let long : c.args.base ≤ length c.args.strip.now = omega (arith, c.requires.shape.1.1.0) in
+    let more : length grown ≡ n + 1 = one_more _ _ _ _ _ _ _ _ p.0 c.requires.shape.1.0 grown is refl long c.if-mark-eq1.false (small j) in
+    let last : length grown - 1 ≡ n = omega arith in
+    let bound : c.args.x.load ≤ 65535 * n = new_bound _ _ _ _ _ _ _ _ p.0 c.requires.shape.1.0 grown is refl long c.if-mark-eq1.false (small j) in
+    let newest : get_or grown (length grown - 1) 0 ≡ c.args.x.load
+    = ap (λ (k : ℕ). get_or grown k 0) last ∙ new_load _ _ _ _ _ _ _ _ p.0 c.requires.shape.1.0 grown is refl long c.if-mark-eq1.false (small j) in
     record {
-      shape = (
-        rw length-set c.requires.shape.0,
-        (
-          rw length-set free,
-          (rw (get_or-set_same c.args.order.now c.args.n c.args.x.load 0 free) (omega (arith, less, c.requires.shape.1.0)), omega (arith, p.1, c.requires.places)),
-        ),
-      );
-      waits = waits_grown _ _ _ _ _ _ _ _ p.0 c.requires.shape.1.1.0 free c.requires.shape.1.1.1.0 c.if-strip-r-eq1.false small;
+      some = omega arith;
+      low = omega (arith, c.requires.shape.0);
+      places = omega (arith, p.1, c.requires.places, c.match-get.auto.pointers);
+      waits =
+          subst (λ (k : ℕ). Waits grown (places_of c.match-get.pointers) (sizes_of c.match-get.pointers) (Under (places_of c.match-get.pointers) k) (waits c.match-get.waiting)) (sym last)
+          (waits_grown _ _ _ _ _ _ _ _ p.0 c.requires.shape.1.0 grown is refl long c.if-mark-eq1.false (small j));
     }
 
 pub returns : goal.returns
 returns c =
-    let p = ready (goal.at.returns c).Joined-next-n in
-    let less : c.args.n < c.args.m = unfinished (goal.at.returns c).Joined-next-n c.if-strip-r-eq1.false in
-    let free : c.args.n < length c.args.order.now = omega (arith, less, c.requires.shape.1.1.1.1) in
-    let small : (u : ℕ) → get_or c.args.sizes.now u 0 ≤ 65535 = λ u. omega (arith, c.type_inv.sizes u) in
-    let e = c.refill.ensures in
-    let st = settle_new _ _ _ _ _ _ _ _ p.0 c.requires.shape.1.1.0 free c.requires.shape.1.1.1.0 c.if-strip-r-eq1.false small _ e.waits in
-    let z : get_or (set c.args.order.now c.args.n c.args.x.load) (c.args.n + 1 - 1) 0 ≡ c.args.x.load
-    = let q : c.args.n + 1 - 1 ≡ c.args.n = omega arith in rw q (get_or-set_same c.args.order.now c.args.n c.args.x.load 0 free) in
+    let j = (goal.at.returns c).Joined-get in
+    let p = ready j in
+    let old = c.args.loads.now.items in
+    let grown : List ℕ = c.push_reserved.new.self.items in
+    let n : ℕ = length old in
+    let long : c.args.base ≤ length c.args.strip.now = omega (arith, c.requires.shape.1.1.0) in
+    let more : length grown ≡ n + 1 = one_more _ _ _ _ _ _ _ _ p.0 c.requires.shape.1.0 grown c.push_reserved.ensures.items refl long c.if-mark-eq1.false (small j) in
+    let served : Waits grown (places_of c.match-get.pointers) (sizes_of c.match-get.pointers) (Under (places_of c.match-get.pointers) (n + 1)) (waits c.refill.new.waiting)
+    = subst (λ (k : ℕ). Waits grown (places_of c.match-get.pointers) (sizes_of c.match-get.pointers) (Under (places_of c.match-get.pointers) k) (waits c.refill.new.waiting)) more
+    (subst (λ (l : List ℕ). Waits l (places_of c.match-get.pointers) (sizes_of c.match-get.pointers) (Under (places_of c.match-get.pointers) (length l)) (waits c.refill.new.waiting))
+    c.as_slice.ensures.value c.refill.ensures.waits) in
     record {
-      state = st;
-      later = λ k h. omega (arith, z, st.later k h);
-      steps = sum_moved c.args.points.now c.args.x.position (omega (arith, c.requires.shape.0, c.requires.unit.0));
-      beyond = drop-set-lt c.args.m c.args.strip.now (c.args.x.load % c.args.m) 1 (mod-lt c.args.x.load c.requires.shape.1.1.0);
-      size = e.size ∙ p.1;
+      state =
+          subst (λ (k : ℕ). State (sizes_of c.match-get.pointers) c.args.base (set c.args.strip.now (c.args.x.load % c.args.base) 1) grown (places_of c.match-get.pointers) k (waits c.refill.new.waiting))
+          (sym more) (settle_new _ _ _ _ _ _ _ _ p.0 c.requires.shape.1.0 grown c.push_reserved.ensures.items refl long c.if-mark-eq1.false (small j) _ served);
+      sizes = sizes j;
+      steps = step j;
+      capacity = c.push_reserved.ensures.capacity;
+      size = c.refill.ensures.size ∙ p.1;
     }

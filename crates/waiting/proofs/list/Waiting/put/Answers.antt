@@ -4,12 +4,8 @@ use Rattle.waiting.specs.Lists.{waits}
 use Rattle.waiting.proofs.Outs.{front_same}
 use Rattle.waiting.proofs.list.Waiting.put.Goals as goal
 
-pub returns : goal.returns
-returns g c =
+pub returns-clause-value : goal.returns-clause-value
+returns-clause-value g c =
     let front : take c.len-used.result c.args.self.now.slots.now ≡ waits c.args.self.now
     = ap (λ n. take n c.args.self.now.slots.now) c.len-used.ensures.value ∙ sym (front_same c.args.self.now.len c.args.self.now.slots.now) in
-    record {
-      value = (search rules, take_more_set c.args.self.now.slots.now c.len-used.result c.args.x (search rules) ∙ ap (λ l. l ++ c.args.x ∷ []) front);
-      size = search rules;
-      same = search rules;
-    }
+    (search rules, take_more_set c.args.self.now.slots.now c.len-used.result c.args.x (search rules) ∙ ap (λ l. l ++ c.args.x ∷ []) front)
