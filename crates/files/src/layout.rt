@@ -5,8 +5,7 @@ ghost use Rattle.files.specs.Faults.{Fault};
 ghost use Rattle.files.specs.Fields.{Bytes};
 ghost use Rattle.files.specs.Layout.{Kept, SizeFits, WellFormed, fields, letters};
 
-use crate::fields::read16;
-use crate::reading::{base, other, others, units};
+use crate::reading::{base, other, others, units, version};
 
 /// The letters at the front of a file.
 pub(crate) const LETTERS: &[u8] = b"RTB";
@@ -35,7 +34,7 @@ fn head_fault(file: &[u8]) -> Option<usize>
     if length < 5 {
         return Some(length);
     }
-    if read16(file, 3) != VERSION {
+    if version(file) != VERSION {
         return Some(3);
     }
     if length < 6 {

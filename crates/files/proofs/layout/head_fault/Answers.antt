@@ -12,8 +12,8 @@ returns-then-not-lettered c = broken 0 (omega arith) (kept_none _) (search rules
 pub returns-then-length-lt5 : goal.returns-then-length-lt5
 returns-then-length-lt5 c = cut 1 (omega arith) (kept_1 _ (search rules) (search rules)) (search rules) refl
 
-pub returns-then-read16-ne-VERSION : goal.returns-then-read16-ne-VERSION
-returns-then-read16-ne-VERSION c = broken 1 (omega arith) (kept_1 _ (search rules) (search rules)) (search rules) (λ k. search rules) refl
+pub returns-then-version-ne-VERSION : goal.returns-then-version-ne-VERSION
+returns-then-version-ne-VERSION c = broken 1 (omega arith) (kept_1 _ (search rules) (search rules)) (search rules) (λ k. search rules) refl
 
 pub returns-then-length-lt6 : goal.returns-then-length-lt6
 returns-then-length-lt6 c = cut 2 (omega arith) (kept_2 _ (kept_1 _ (search rules) (search rules)) (search rules) (search rules)) (search rules) refl
