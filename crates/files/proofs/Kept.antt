@@ -1,8 +1,8 @@
 -- The fields of a file from the front, one more at a time.
-use Rattle.std.proofs.Common.{◌≡◌, ℕ, suc, ◌+◌, ◌-◌, ◌*◌, ◌<◌, ◌≤◌, List, length, take, refl, subst, inl, inr, arith}
-use Rattle.std.proofs.lemmas.Bool.{cases_lt}
-use Rattle.files.specs.Faults.{Fault, broken, cut}
-use Rattle.files.specs.Layout.{Keeps, Kept, SizeFits, field_end, file_units, file_version, letters}
+use Rattle.std.proofs.Common.{◌≡◌, ℕ, suc, ◌<◌, ◌≤◌, Bool, Decides, MatchResult, Result, Ok, Err, List, length, sym, ◌∙◌, subst, inl, inr, arith}
+use Rattle.std.proofs.lemmas.Bool.{cases_lt, true≢false}
+use Rattle.files.specs.Faults.{Fault, FieldFault, FieldWhole, broken, cut, field_broken, field_cut}
+use Rattle.files.specs.Layout.{Keeps, Kept, field_end, field_start, fields, file_units}
 
 module _ (bytes : List ℕ) where
   pub kept_none : Kept bytes 0
@@ -17,25 +17,20 @@ module _ (bytes : List ℕ) where
             subst (λ (f : ℕ). (field_end f ≤ length bytes) × Keeps bytes f) same (ends, keeps)
       ]
 
-  pub kept_1 : 3 ≤ length bytes → take 3 bytes ≡ letters → Kept bytes 1
-  kept_1 ends keeps = kept_more 0 kept_none ends keeps
+  -- a field that was found whole and at its rule, and one that was not
+  pub kept_field : (count end : ℕ) (keeps : Bool) → Kept bytes count → end ≡ field_end count → Decides keeps (Keeps bytes count) → FieldWhole bytes end keeps → Kept bytes (suc count)
+  kept_field count end keeps kept at decides whole = kept_more count kept (omega (arith, whole.ends)) (decides.0 whole.rule)
 
-  pub kept_2 : Kept bytes 1 → 5 ≤ length bytes → file_version bytes ≡ 1 → Kept bytes 2
-  kept_2 kept ends keeps = kept_more 1 kept ends keeps
+  pub fault_field : (field start end offset : ℕ) (keeps : Bool) → field < fields bytes → Kept bytes field → start ≡ field_start field → end ≡ field_end field → Decides keeps (Keeps bytes field) → FieldFault bytes start end keeps offset → Fault bytes offset
+  fault_field field start end offset keeps low kept from to decides (field_cut less at) = cut field low kept (omega arith) at
+  fault_field field start end offset keeps low kept from to decides (field_broken ends false at) =
+      broken field low kept (omega arith) (λ is. absurd (true≢false (sym (decides.1 is) ∙ false))) (at ∙ from)
 
-  pub kept_3 : Kept bytes 2 → 6 ≤ length bytes → 1 ≤ file_units bytes → file_units bytes ≤ 16 → Kept bytes 3
-  kept_3 kept ends some few = kept_more 2 kept ends (some, few)
-
-  -- a size that is cut short, or that breaks its rule
-  pub cut_size : (place : ℕ) → place < file_units bytes - 1 → Kept bytes (4 + place) → length bytes < 10 + 2 * place → Fault bytes (length bytes)
-  cut_size place low kept h =
-      let four : 4 + place ≡ suc (suc (suc (suc place))) = omega arith in
-      cut (suc (suc (suc (suc place)))) (omega arith) (subst (Kept bytes) four kept) (omega arith) refl
-
-  pub broken_size : (place : ℕ) → place < file_units bytes - 1 → Kept bytes (4 + place) → 10 + 2 * place ≤ length bytes → (SizeFits bytes place → ⊥) → Fault bytes (8 + 2 * place)
-  broken_size place low kept ends breaks =
-      let four : 4 + place ≡ suc (suc (suc (suc place))) = omega arith in
-      broken (suc (suc (suc (suc place)))) (omega arith) (subst (Kept bytes) four kept) (omega arith) breaks refl
+  pub checked_field : (field start end : ℕ) (keeps : Bool) (r : Result (Unit {0}) ℕ) → field < fields bytes → Kept bytes field → start ≡ field_start field → end ≡ field_end field → Decides keeps (Keeps bytes field)
+      → MatchResult r (λ _. FieldWhole bytes end keeps) (FieldFault bytes start end keeps)
+      → MatchResult r (λ _. Kept bytes (suc field)) (Fault bytes)
+  checked_field field start end keeps (Ok _) low kept from to decides whole = kept_field field end keeps kept to decides whole
+  checked_field field start end keeps (Err offset) low kept from to decides fault = fault_field field start end offset keeps low kept from to decides fault
 
   -- what the first fields say
   module _ (kept : Kept bytes 4) where

@@ -1,4 +1,5 @@
 pub mod Numbers
+pub mod Pieces
 pub mod Places
 pub mod Kept
 pub mod Firsts

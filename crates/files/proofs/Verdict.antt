@@ -1,11 +1,15 @@
 -- From the checks of a file to the verdict on it.
-use Rattle.std.proofs.Common.{ℕ, List}
+use Rattle.std.proofs.Common.{◌≡◌, ℕ, List, IsErrAnd, MatchResult, Result, Ok, Err, sym, ◌∙◌}
+use Rattle.std.proofs.lemmas.Result.{err_from_is_err_and}
 use Rattle.tables.specs.Rules.{Rules}
 use Rattle.tables.proofs.Certificate.{sound, complete}
+use Rattle.tables.specs.declared.refusals.Refusal.{Refusal}
+use Rattle.tables.specs.declared.refusals.Refusal.TheVariants.{Malformed, Untrue}
 use Rattle.files.specs.Checks.{FirstFalse}
 use Rattle.files.specs.Entries.{entry_past}
 use Rattle.files.specs.Faults.{Fault}
-use Rattle.files.specs.Judged.{TrueFile}
+use Rattle.files.specs.Judged.{Judges, Rejects, TrueFile, malformed, untrue}
+use Rattle.files.specs.Fields.{Bytes}
 use Rattle.files.specs.Layout.{WellFormed, file_base, file_entry, file_others}
 use Rattle.files.proofs.Firsts.{no_fault}
 use Rattle.files.proofs.Formed.{formed_low, others_sized}
@@ -26,3 +30,28 @@ module _ (bytes : List ℕ) where
 
   pub false_untrue : (r : ℕ) → FirstFalse (file_base bytes) (file_others bytes) (file_entry bytes) r → TrueFile bytes → ⊥
   false_untrue r first true_file = first.fails (true_rules true_file r first.below)
+
+  -- what the check of the layout answers, and what that of the entries does
+  abbrev Laid : Result (Unit {0}) ℕ → Type 0
+  Laid r = MatchResult r (λ _. WellFormed bytes × Bytes bytes) (Fault bytes)
+
+  abbrev Ruled : Result (Unit {0}) ℕ → Type 0
+  Ruled r = MatchResult r (λ _. Rules (file_base bytes) (file_others bytes) (file_entry bytes)) (FirstFalse (file_base bytes) (file_others bytes) (file_entry bytes))
+
+  -- where such an answer is told as a refusal
+  abbrev Told : (ℕ → Refusal) → Result (Unit {0}) ℕ → Result (Unit {0}) Refusal → Type 0
+  Told reason r told = MatchResult r (λ u. told ≡ Ok u) (λ x. IsErrAnd told (λ y. y ≡ reason x))
+
+  pub unformed : (r : Result (Unit {0}) ℕ) (told : Result (Unit {0}) Refusal) (why : Refusal) → Laid r → Told Malformed r told → told ≡ Err why → Rejects bytes why × (TrueFile bytes → ⊥)
+  unformed (Ok _) told why formed ok err = absurd (cc (sym ok ∙ err))
+  unformed (Err offset) told why fault same err = rw (rw err at same) (malformed offset fault, fault_untrue offset fault)
+
+  pub formed : (r : Result (Unit {0}) ℕ) (told : Result (Unit {0}) Refusal) (u : Unit {0}) → Laid r → Told Malformed r told → told ≡ Ok u → WellFormed bytes × Bytes bytes
+  formed (Ok _) told u laid same ok = laid
+  formed (Err offset) told u fault same ok = absurd (rw ok at same)
+
+  pub judged : (r : Result (Unit {0}) ℕ) (told : Result (Unit {0}) Refusal) → WellFormed bytes → Ruled r → Told Untrue r told → Judges bytes told
+  judged (Ok _) told formed rules ok = rw ok (rules_true formed rules)
+  judged (Err first) told formed false same =
+      let p = err_from_is_err_and told same in
+      rw (p.1, p.2) (untrue first formed false, false_untrue first false)

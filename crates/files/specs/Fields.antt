@@ -1,5 +1,6 @@
 -- Numbers as bytes, the high byte first.
-use Rattle.std.specs.Prelude.{ℕ, ◌+◌, ◌*◌, ◌/◌, ◌%◌, ◌<◌, List, [], ◌∷◌, slice_index}
+use Rattle.std.specs.Prelude.{ℕ, ◌+◌, ◌*◌, ◌/◌, ◌%◌, ◌<◌, List, [], ◌∷◌, map, slice_index}
+use Rattle.std.specs.List.{range_with_len}
 
 -- The two bytes of a number below 65,536.
 abbrev pub be16 : ℕ → List ℕ
@@ -8,6 +9,10 @@ be16 n = (n / 256 % 256) ∷ (n % 256) ∷ []
 -- The four bytes of a number below 4,294,967,296.
 abbrev pub be32 : ℕ → List ℕ
 be32 n = (n / 16777216 % 256) ∷ (n / 65536 % 256) ∷ (n / 256 % 256) ∷ (n % 256) ∷ []
+
+-- So many bytes of a file, from an offset on. Past the end a byte reads as 0.
+abbrev pub bytes_at : List ℕ → ℕ → ℕ → List ℕ
+bytes_at bytes p n = map (slice_index bytes) (range_with_len p n)
 
 -- The number that two bytes of a file make up, from an offset on. Past the end a byte reads as 0.
 abbrev pub at16 : List ℕ → ℕ → ℕ

@@ -1,5 +1,5 @@
 -- The bytes of a table file, and what saving one leaves in the memory that is lent for it.
-use Rattle.std.specs.Prelude.{◌≡◌, ℕ, zero, suc, ◌+◌, ◌-◌, ◌*◌, ◌<◌, ◌≤◌, List, [], ◌∷◌, ◌++◌, length, drop, Some, None, Ok, Err, Option, Result}
+use Rattle.std.specs.Prelude.{◌≡◌, ℕ, zero, suc, ◌+◌, ◌-◌, ◌*◌, ◌<◌, ◌≤◌, List, [], ◌∷◌, ◌++◌, length, drop, Ok, Err, Option, Result, unwrap_or}
 use Rattle.std.specs.List.{flat_map}
 use Rattle.tables.specs.Rows.{base_of}
 use Rattle.tables.specs.declared.refusals.Refusal.{Refusal}
@@ -9,8 +9,7 @@ use Rattle.files.specs.Layout.{letters}
 
 -- The number that stands for an entry.
 abbrev pub entry_number : Option ℕ → ℕ
-entry_number None = 4294967295
-entry_number (Some e) = e
+entry_number o = unwrap_or o 4294967295
 
 -- The four bytes of an entry.
 abbrev pub entry_bytes : Option ℕ → List ℕ

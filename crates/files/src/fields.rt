@@ -1,52 +1,32 @@
-//! Numbers in a file, the high byte first. What lies past the end of a file reads as 0.
+//! The bytes of a field in a file, by its offset. What lies past the end of a file reads as 0.
 
-ghost use Rattle.std.specs.Prelude.{◌≡◌, ◌+◌, ◌^◌, ◌<◌, ◌≤◌, ◌++◌, length, take, drop, slice_index};
-ghost use Rattle.files.specs.Fields.{at16, at32, be16, be32};
+ghost use Rattle.std.specs.Prelude.{◌≡◌, ◌+◌, ◌≤◌, ◌++◌, length, take, drop};
+ghost use Rattle.files.specs.Fields.{bytes_at};
 
-/// The byte at an offset.
-pub(crate) fn read8(file: &[u8], at: usize) -> u8
-    ensures { result ≡ slice_index file.now at }
+/// What a file has from an offset on.
+fn rest(file: &[u8], at: usize) -> &[u8]
+    ensures { result.now ≡ drop at file.now }
 {
-    if at < file.len() { file[at] } else { 0 }
+    file.get(at..).unwrap_or_default()
 }
 
-/// The number of two bytes at an offset.
-pub(crate) fn read16(file: &[u8], at: usize) -> u16
-    requires { at < 2 ^ 32 }
-    ensures { result ≡ at16 file.now at }
+/// The bytes at an offset. Where all of them are there, one test is enough.
+pub(crate) fn read<const N: usize>(file: &[u8], at: usize) -> [u8; N]
+    ensures { result ≡ bytes_at file.now at N }
 {
-    u16::from_be_bytes([read8(file, at), read8(file, at + 1)])
-}
-
-/// The number of four bytes at an offset. Where all four are there, one test is enough.
-pub(crate) fn read32(file: &[u8], at: usize) -> u32
-    requires { at < 2 ^ 32 }
-    ensures { result ≡ at32 file.now at }
-{
-    if at + 4 <= file.len() {
-        u32::from_be_bytes([file[at], file[at + 1], file[at + 2], file[at + 3]])
-    } else {
-        u32::from_be_bytes([
-            read8(file, at),
-            read8(file, at + 1),
-            read8(file, at + 2),
-            read8(file, at + 3),
-        ])
+    let rest = rest(file, at);
+    if let Some(bytes) = rest.first_chunk() {
+        return *bytes;
     }
+    let mut bytes = [0; N];
+    bytes[..rest.len()].copy_from_slice(rest);
+    bytes
 }
 
-/// Writes a number as two bytes at an offset.
-pub(crate) fn write16(out: &mut [u8], at: usize, number: u16)
-    requires { at + 2 ≤ length out.old }
-    ensures { out.new ≡ take at out.old ++ be16 number ++ drop (at + 2) out.old }
+/// Writes bytes at an offset.
+pub(crate) fn write<const N: usize>(out: &mut [u8], at: usize, bytes: [u8; N])
+    requires { at + N ≤ length out.old }
+    ensures { out.new ≡ take at out.old ++ bytes.entry ++ drop (at + N) out.old }
 {
-    out[at..at + 2].copy_from_slice(&number.to_be_bytes());
-}
-
-/// Writes a number as four bytes at an offset.
-pub(crate) fn write32(out: &mut [u8], at: usize, number: u32)
-    requires { at + 4 ≤ length out.old }
-    ensures { out.new ≡ take at out.old ++ be32 number ++ drop (at + 4) out.old }
-{
-    out[at..at + 4].copy_from_slice(&number.to_be_bytes());
+    out[at..at + N].copy_from_slice(&bytes);
 }

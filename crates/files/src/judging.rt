@@ -5,8 +5,8 @@ ghost use Rattle.files.specs.Judged.{Judges};
 ghost use Rattle.files.specs.Rounds.{WrittenAgain};
 ghost use Rattle.std.specs.Prelude.{OnOk};
 
-use crate::checks::first_false;
-use crate::layout::fault;
+use crate::checks::check_entries;
+use crate::layout::check_layout;
 use tables::Refusal;
 
 /// Whether a file is well-formed and its entries are the true table of its row.
@@ -17,11 +17,6 @@ pub fn judge(file: &[u8]) -> Result<(), Refusal>
     ensures again { OnOk result (WrittenAgain file.now) }
     ensures fault { FirstFault file.now }
 {
-    if let Some(offset) = fault(file) {
-        return Err(Refusal::Malformed(offset));
-    }
-    if let Some(remainder) = first_false(file) {
-        return Err(Refusal::Untrue(remainder));
-    }
-    Ok(())
+    check_layout(file).map_err(Refusal::Malformed)?;
+    check_entries(file).map_err(Refusal::Untrue)
 }

@@ -1,12 +1,11 @@
 //! Whether a file is well-formed, and where its first fault lies.
 
-ghost use Rattle.std.specs.Prelude.{◌≡◌, ◌^◌, ◌<◌, length, take, Decides, MatchOption};
-ghost use Rattle.files.specs.Faults.{Fault};
+ghost use Rattle.std.specs.Prelude.{◌≡◌, ◌^◌, ◌<◌, length, take, Decides, MatchResult};
+ghost use Rattle.files.specs.Faults.{Fault, FieldFault, FieldWhole};
 ghost use Rattle.files.specs.Fields.{Bytes};
 ghost use Rattle.files.specs.Layout.{Kept, SizeFits, WellFormed, fields, letters};
 
-use crate::fields::read16;
-use crate::reading::{base, other, others, units};
+use crate::reading::{base, other, others, units, version};
 
 /// The letters at the front of a file.
 pub(crate) const LETTERS: &[u8] = b"RTB";
@@ -21,38 +20,24 @@ fn lettered(file: &[u8]) -> bool
     file.starts_with(LETTERS)
 }
 
-/// The first fault among the letters, the version, the number of units and the base.
-fn head_fault(file: &[u8]) -> Option<usize>
-    ensures { MatchOption result (Kept file.now 4) (Fault file.now) }
+/// Refuses a field that is cut short or breaks its rule, with the offset of the fault.
+fn check_field(file: &[u8], start: usize, end: usize, keeps: bool) -> Result<(), usize>
+    ensures { MatchResult result (λ _. FieldWhole file.now end keeps) (FieldFault file.now start end keeps) }
 {
-    let length = file.len();
-    if length < 3 {
-        return Some(length);
+    if file.len() < end {
+        return Err(file.len());
     }
-    if !lettered(file) {
-        return Some(0);
-    }
-    if length < 5 {
-        return Some(length);
-    }
-    if read16(file, 3) != VERSION {
-        return Some(3);
-    }
-    if length < 6 {
-        return Some(length);
-    }
-    let units = units(file);
-    if units < 1 || units > 16 {
-        return Some(5);
-    }
-    if length < 8 {
-        return Some(length);
-    }
-    let base = base(file);
-    if base < 1 || base > 4096 {
-        return Some(6);
-    }
-    None
+    keeps.then_some(()).ok_or(start)
+}
+
+/// Refuses the first fault among the letters, the version, the number of units and the base.
+fn check_head(file: &[u8]) -> Result<(), usize>
+    ensures { MatchResult result (λ _. Kept file.now 4) (Fault file.now) }
+{
+    check_field(file, 0, 3, lettered(file))?;
+    check_field(file, 3, 5, version(file) == VERSION)?;
+    check_field(file, 5, 6, (1..=16).contains(&units(file)))?;
+    check_field(file, 6, 8, (1..=4096).contains(&base(file)))
 }
 
 /// Whether the size of the other unit at a place keeps its rule.
@@ -61,44 +46,38 @@ fn size_fits(file: &[u8], place: usize) -> bool
     ensures { Decides result (SizeFits file.now place) }
 {
     let size = other(file, place);
-    if size < 1 || u32::from(size) == base(file) {
-        return false;
-    }
-    place < 1 || other(file, place - 1) < size
+    size > 0 && u32::from(size) != base(file) && (place == 0 || other(file, place - 1) < size)
 }
 
-/// The first fault among the sizes of the other units.
-fn sizes_fault(file: &[u8]) -> Option<usize>
+/// Refuses the first fault among the sizes of the other units.
+fn check_sizes(file: &[u8]) -> Result<(), usize>
     requires { Kept file.now 4 }
-    ensures { MatchOption result (Kept file.now (fields file.now)) (Fault file.now) }
+    ensures { MatchResult result (λ _. Kept file.now (fields file.now)) (Fault file.now) }
 {
     for place in 0..others(file) {
-        if file.len() < 10 + 2 * place {
-            return Some(file.len());
-        }
-        if !size_fits(file, place) {
-            return Some(8 + 2 * place);
-        }
+        check_field(file, 8 + 2 * place, 10 + 2 * place, size_fits(file, place))?;
     }
-    None
+    Ok(())
 }
 
-/// The offset of the first fault of a file, or none where it is well-formed.
-pub(crate) fn fault(file: &[u8]) -> Option<usize>
-    ensures { MatchOption result (WellFormed file.now × Bytes file.now) (Fault file.now) }
+/// Refuses a file whose fields are kept, but whose entries are cut short or followed by more bytes.
+fn check_length(file: &[u8]) -> Result<(), usize>
+    requires { Kept file.now (fields file.now) }
+    ensures { MatchResult result (λ _. WellFormed file.now × Bytes file.now) (Fault file.now) }
 {
-    if let Some(offset) = head_fault(file) {
-        return Some(offset);
+    let length = file.len();
+    let proper = 8 + 2 * others(file) + 4 * base(file) as usize;
+    if length != proper {
+        return Err(length.min(proper));
     }
-    if let Some(offset) = sizes_fault(file) {
-        return Some(offset);
-    }
-    let proper = 8 + 2 * (usize::from(file[5]) - 1) + 4 * base(file) as usize;
-    if file.len() < proper {
-        return Some(file.len());
-    }
-    if file.len() > proper {
-        return Some(proper);
-    }
-    None
+    Ok(())
+}
+
+/// Refuses a file that is not well-formed, with the offset of its first fault.
+pub(crate) fn check_layout(file: &[u8]) -> Result<(), usize>
+    ensures { MatchResult result (λ _. WellFormed file.now × Bytes file.now) (Fault file.now) }
+{
+    check_head(file)?;
+    check_sizes(file)?;
+    check_length(file)
 }

@@ -4,20 +4,13 @@ ghost use Rattle.std.specs.Prelude.{◌≡◌, ◌+◌, ◌*◌, ◌≤◌, ◌�
 ghost use Rattle.files.specs.Fields.{be16};
 ghost use Rattle.files.specs.Layout.{letters};
 ghost use Rattle.files.specs.Rounds.{ReadsBack};
-ghost use Rattle.files.specs.Written.{Saves, entries_from, entry_bytes, entry_number};
+ghost use Rattle.files.specs.Written.{Saves, entries_from, entry_bytes};
 ghost use Rattle.std.specs.List.{flat_map};
 
-use crate::fields::{write16, write32};
+use crate::fields::write;
 use crate::layout::{LETTERS, VERSION};
 use crate::reading::ABSENT;
 use tables::{Refusal, Showing};
-
-/// The number that stands for an entry.
-fn number(entry: Option<u32>) -> u32
-    ensures { result ≡ entry_number entry }
-{
-    entry.unwrap_or(ABSENT)
-}
 
 /// Writes the letters, the version, the number of units and the base.
 fn write_head(units: u8, base: u16, out: &mut [u8])
@@ -25,9 +18,9 @@ fn write_head(units: u8, base: u16, out: &mut [u8])
     ensures { out.new ≡ (letters ++ (be16 1 ++ (units ∷ be16 base))) ++ drop 8 out.old }
 {
     out[0..3].copy_from_slice(LETTERS);
-    write16(out, 3, VERSION);
+    write(out, 3, VERSION.to_be_bytes());
     out[5] = units;
-    write16(out, 6, base);
+    write(out, 6, base.to_be_bytes());
 }
 
 /// Writes the sizes of the units other than the base.
@@ -38,7 +31,7 @@ fn write_sizes<S: Showing>(source: &S, others: usize, out: &mut [u8])
 {
     for place in 0..others {
         let size = source.size(place + 1).unwrap();
-        write16(out, 8 + 2 * place, size);
+        write(out, 8 + 2 * place, size.to_be_bytes());
     }
 }
 
@@ -48,11 +41,8 @@ fn write_entries<S: Showing>(source: &S, base: u32, at: usize, out: &mut [u8])
     ensures { out.new ≡ take at out.old ++ flat_map entry_bytes (entries_from (S.Entries.entry source.now) 0 base) ++ drop (at + 4 * base) out.old }
 {
     for remainder in 0..base {
-        write32(
-            out,
-            at + 4 * remainder as usize,
-            number(source.least(remainder)),
-        );
+        let number = source.least(remainder).unwrap_or(ABSENT);
+        write(out, at + 4 * remainder as usize, number.to_be_bytes());
     }
 }
 

@@ -1,37 +1,23 @@
-use Rattle.std.proofs.Common.{inl, inr}
-use Rattle.files.specs.Judged.{malformed, untrue}
+use Rattle.std.proofs.Common.{rules}
+use Rattle.std.proofs.lemmas.Result.{err_from_is_err_and}
+use Rattle.files.specs.Rounds.{WrittenAgain}
 use Rattle.files.proofs.Again.{written_again}
-use Rattle.files.proofs.Firsts.{no_fault, one_fault}
-use Rattle.files.proofs.Verdict.{fault_untrue, false_untrue, rules_true}
+use Rattle.files.proofs.Verdict.{unformed, formed, judged}
 use Rattle.files.proofs.judging.judge.Goals as goal
 
-pub returns-in-Some : goal.returns-in-Some
-returns-in-Some c =
-    let b = c.args.file.now in
-    let first = c.in-Some.ensures in
-    record {
-      verdict = (malformed c.in-Some.offset first, fault_untrue b c.in-Some.offset first);
-      again = tt;
-      fault = record { either = inr (c.in-Some.offset, first); one = one_fault b; none = no_fault b };
-    }
+pub returns-in_err-map_err-clause-verdict : goal.returns-in_err-map_err-clause-verdict
+returns-in_err-map_err-clause-verdict c =
+    let p = err_from_is_err_and c.from_residual.result c.from_residual.ensures.1 in
+    rw (p.1, p.2) (unformed c.args.file.now c.check_layout.result c.map_err.result c.in_err-map_err.field-0.0 c.check_layout.ensures c.map_err.ensures.cases c.in_err-map_err.was)
 
-pub returns-in-Some-first_false : goal.returns-in-Some-first_false
-returns-in-Some-first_false c =
+pub returns-clause-verdict : goal.returns-clause-verdict
+returns-clause-verdict c =
     let b = c.args.file.now in
-    let formed = c.in_default.ensures.0 in
-    let first = c.in-Some-first_false.ensures in
-    record {
-      verdict = (untrue c.in-Some-first_false.remainder formed first, false_untrue b c.in-Some-first_false.remainder first);
-      again = tt;
-      fault = record { either = inl formed; one = one_fault b; none = no_fault b };
-    }
+    let f = formed b c.check_layout.result c.map_err.result c.in_ok-map_err.field-0 c.check_layout.ensures c.map_err.ensures.cases c.in_ok-map_err.was in
+    judged b c.check_entries.result c.map_err-2.result f.0 c.check_entries.ensures c.map_err-2.ensures.cases
 
-pub returns : goal.returns
-returns c =
+pub returns-clause-again : goal.returns-clause-again
+returns-clause-again c =
     let b = c.args.file.now in
-    let formed = c.in_default.ensures.0 in
-    record {
-      verdict = rules_true b formed c.in_default-first_false.ensures;
-      again = written_again b c.in_default.ensures.1 formed;
-      fault = record { either = inl formed; one = one_fault b; none = no_fault b };
-    }
+    let f = formed b c.check_layout.result c.map_err.result c.in_ok-map_err.field-0 c.check_layout.ensures c.map_err.ensures.cases c.in_ok-map_err.was in
+    let again : WrittenAgain b = written_again b f.1 f.0 in search (rules, again)

@@ -16,8 +16,8 @@ loop-remainder-preserved g c =
     let at : ℕ = c.args.at + 4 * i in
     part_more entry_bytes 4 (λ x. refl) os None c.args.out.now c.loop-remainder.out _ c.args.at i
     (omega (arith, entries_length entry 0 c.args.base)) (omega arith) c.loop-remainder.invariant
-    (subst (λ (n : ℕ). c.write32.new.out ≡ take at c.loop-remainder.out ++ be32 n ++ drop (at + 4) c.loop-remainder.out)
-    (c.number.ensures ∙ ap entry_number (c.least.ensures ∙ sym (entries_at entry c.args.base i (omega arith)))) c.write32.ensures)
+    (subst (λ (bytes : List ℕ). c.write.new.out ≡ take at c.loop-remainder.out ++ bytes ++ drop (at + 4) c.loop-remainder.out)
+    (c.to_be_bytes.ensures ∙ ap be32 (c.unwrap_or-number.ensures ∙ ap entry_number (c.least.ensures ∙ sym (entries_at entry c.args.base i (omega arith))))) c.write.ensures)
 
 pub returns : goal.returns
 returns g c =

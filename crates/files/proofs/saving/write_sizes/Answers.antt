@@ -20,7 +20,7 @@ loop-place-preserved g c =
     ∙ ap (λ (k : ℕ). get_or row k 0) next ∙ sym (get_or-drop 1 row i 0) in
     part_more be16 2 (λ x. refl) (drop 1 row) 0 c.args.out.now c.loop-place.out _ 8 i
     (omega (arith, length-drop 1 row)) (omega arith) c.loop-place.invariant
-    (subst (λ (n : ℕ). c.write16.new.out ≡ take (8 + 2 * i) c.loop-place.out ++ be16 n ++ drop (8 + 2 * i + 2) c.loop-place.out) told c.write16.ensures)
+    (subst (λ (bytes : List ℕ). c.write.new.out ≡ take (8 + 2 * i) c.loop-place.out ++ bytes ++ drop (8 + 2 * i + 2) c.loop-place.out) (c.to_be_bytes.ensures ∙ ap be16 told) c.write.ensures)
 
 pub returns : goal.returns
 returns g c =
