@@ -8,7 +8,7 @@ use Rattle.tables.proofs.Certificate.{complete}
 use Rattle.tables.proofs.Tested.{start_from, leaves_from, closed_from, stepped_from}
 use Rattle.books.specs.Units.{Sized, Small, Rising, Apart}
 use Rattle.books.proofs.Clears.{cleared_all, left_cleared}
-use Rattle.books.proofs.Held.{book_table}
+use Rattle.books.specs.Held.{book_table}
 use Rattle.books.proofs.Lists.{has_place, has_no_place, located}
 use Rattle.books.proofs.Refused.{withdraw_base, withdraw_absent, withdraw_fits}
 use Rattle.books.proofs.Removed.{out_each, out_rising, leave_out_is}
