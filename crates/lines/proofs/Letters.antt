@@ -66,36 +66,61 @@ from_line x t r =
     let s = split (sym (text_is r.line) ∙ r.spells.is) in
     subst (λ (y : ℕ). Tail y t) s.0 (subst (Tail (letter r.line)) s.1 (sorts r.line r.spells.fits))
 
--- a letter with a number
-to_number : (x : ℕ) (mk : ℕ → Line) → ((n : ℕ) → n ≤ 4294967295 → Fits (mk n)) → ((n : ℕ) → text (mk n) ≡ x ∷ (32 ∷ (decimal n ++ (10 ∷ [])))) → (t : List ℕ) → Numeric t → Readable (x ∷ t)
-to_number x mk fits is t a =
-    let n = a.follows in
-    record {
-      line = mk n.value;
-      spells = record {
-        fits = fits n.value n.fits;
-        is = is n.value ∙ ap (λ (u : List ℕ). x ∷ u) (ap (λ (u : List ℕ). 32 ∷ u) (ap (λ (u : List ℕ). decimal n.value ++ u) (sym n.follows) ∙ n.is) ∙ a.is);
-      };
-    }
+-- x is the letter of the lines that mk makes of a number
+pub record WithNumber (x : ℕ) (mk : ℕ → Line) : Type 0 where
+  pub fits : (n : ℕ) → n ≤ 4294967295 → Fits (mk n)
+  pub spelled : (n : ℕ) → text (mk n) ≡ x ∷ (32 ∷ (decimal n ++ (10 ∷ [])))
+  pub behind : (t : List ℕ) → Tail x t → Numeric t
 
--- a letter alone
-to_alone : (x : ℕ) (line : Line) → Fits line → text line ≡ x ∷ (10 ∷ []) → (t : List ℕ) → End t → Readable (x ∷ t)
-to_alone x line fits is t e = record { line = line; spells = record { fits = fits; is = is ∙ ap (λ (u : List ℕ). x ∷ u) (sym e) } }
+pub open_letter : WithNumber 66 Open
+open_letter = record { fits = λ n h. h; spelled = λ n. refl; behind = λ t h. h }
+
+pub admit_letter : WithNumber 65 Admit
+admit_letter = record { fits = λ n h. h; spelled = λ n. refl; behind = λ t h. h }
+
+pub withdraw_letter : WithNumber 87 Withdraw
+withdraw_letter = record { fits = λ n h. h; spelled = λ n. refl; behind = λ t h. h }
+
+pub make_letter : WithNumber 77 Make
+make_letter = record { fits = λ n h. h; spelled = λ n. refl; behind = λ t h. h }
+
+-- x is the letter of a line that has nothing else
+pub record Alone (x : ℕ) (line : Line) : Type 0 where
+  pub fits : Fits line
+  pub spelled : text line ≡ x ∷ (10 ∷ [])
+  pub behind : (t : List ℕ) → Tail x t → End t
+
+pub largest_letter : Alone 76 Largest
+largest_letter = record { fits = tt; spelled = refl; behind = λ t h. h }
+
+pub gaps_letter : Alone 71 Gaps
+gaps_letter = record { fits = tt; spelled = refl; behind = λ t h. h }
+
+number_spells : {x : ℕ} {mk : ℕ → Line} → WithNumber x mk → (t : List ℕ) (n : ℕ) → LastNumber 4294967295 t n → Spells (x ∷ t) (mk n)
+number_spells {x = x} sort t n last = record { fits = sort.fits n last.fits; is = sort.spelled n ∙ ap (λ (u : List ℕ). x ∷ u) last.is }
+
+alone_spells : {x : ℕ} {line : Line} → Alone x line → (t : List ℕ) → End t → Spells (x ∷ t) line
+alone_spells {x = x} alone t end = record { fits = alone.fits; is = alone.spelled ∙ ap (λ (u : List ℕ). x ∷ u) (sym end) }
+
+-- a number and the end of the line are the last number
+last_of : (t : List ℕ) → Numeric t → (n : ℕ) × LastNumber 4294967295 t n
+last_of t a =
+    let n = a.follows in
+    (n.value, record { fits = n.fits; is = ap (λ (u : List ℕ). 32 ∷ u) (ap (λ (u : List ℕ). decimal n.value ++ u) (sym n.follows) ∙ n.is) ∙ a.is })
 
 -- Columns count from 1, so that what follows the letter begins at column 2.
-unread : (x : ℕ) → ((t : List ℕ) → Tail x t → Readable (x ∷ t)) → {bytes t : List ℕ} → bytes ≡ x ∷ t → {reason : Refusal} → Breaks (Tail x) t 2 reason → Unread bytes reason
-unread x to {t = t} e b = record {
+unread : (x : ℕ) (Rest : List ℕ → Type 0) → ((t : List ℕ) → Rest t → Readable (x ∷ t)) → ((t : List ℕ) → Tail x t → Rest t) → (t : List ℕ) (reason : Refusal) → Breaks Rest t 2 reason → Unread (x ∷ t) reason
+unread x Rest to behind t reason b = record {
   column = 2 + b.place;
   named = b.named;
   from = omega arith;
   stops =
       let k : suc b.place ≡ 2 + b.place - 1 = omega arith in
-      subst (λ (u : List ℕ). Stops Readable u (2 + b.place - 1)) (sym e)
-      (subst (Stops Readable (x ∷ t)) k (stops_under Readable (Tail x) x to (from_line x) t b.place b.stops));
+      subst (Stops Readable (x ∷ t)) k (stops_under Readable Rest x to (λ u r. behind u (from_line x u r)) t b.place b.stops);
 }
 
 starts_line : Starts Readable []
-starts_line = record { rest = 76 ∷ (10 ∷ []); whole = to_alone 76 Largest tt refl (10 ∷ []) refl }
+starts_line = record { rest = 76 ∷ (10 ∷ []); whole = record { line = Largest; spells = alone_spells largest_letter (10 ∷ []) refl } }
 
 -- the bytes begin with no letter of a line
 unread_first : (bytes : List ℕ) → ((t : List ℕ) → Tail (get_or bytes 0 0) t → ⊥) → Unread bytes (Unreadable 1)
@@ -130,49 +155,22 @@ unread_empty bytes none =
     let past = get_or_past bytes 0 0 (omega arith) in
     unread_other bytes (λ e. omega arith) (λ e. omega arith) (λ e. omega arith) (λ e. omega arith) (λ e. omega arith) (λ e. omega arith)
 
--- the letter of a line, and what follows it in the line, spell the line
-spells : (line : Line) → Fits line → {bytes t : List ℕ} → bytes ≡ letter line ∷ t → tail line ≡ t → Spells bytes line
-spells line fits e is = record { fits = fits; is = text_is line ∙ ap (λ (u : List ℕ). letter line ∷ u) is ∙ sym e }
+-- A line is made of what is read behind its letter, from column 2 on, and what breaks off there breaks off as a line.
+module _ (bytes : List ℕ) {t : List ℕ} {column : ℕ} (some : 0 < length bytes) (left : t ≡ take (length bytes - 1) (drop 1 bytes)) (second : column ≡ 2) (x : ℕ) (first : get_or bytes 0 0 ≡ x) where
+  whole : bytes ≡ x ∷ t
+  whole = parted x some first ∙ ap (λ (u : List ℕ). x ∷ u) (sym left)
 
--- A line is made of what is read behind its letter, and what breaks off there breaks off as a line.
-reads_with : {A : Type 0} (mk : A → Line) (Told : A → Type 0) (Broken : Refusal → Type 0) {bytes : List ℕ} → ((a : A) → Told a → Spells bytes (mk a)) → ((reason : Refusal) → Broken reason → Unread bytes reason)
-    → (behind : Result A Refusal) (line : Result Line Refusal) → MatchResult behind Told Broken → MatchResult behind (λ a. IsOkAnd line (λ l. l ≡ mk a)) (λ reason. line ≡ Err reason) → Reads bytes line
-reads_with mk Told Broken {bytes = bytes} spelled broken (Ok a) (Ok l) told made = subst (Spells bytes) (sym made) (spelled a told)
-reads_with mk Told Broken {bytes = bytes} spelled broken (Ok a) (Err reason) told made = absurd made
-reads_with mk Told Broken {bytes = bytes} spelled broken (Err reason) line told made = subst (Reads bytes) (sym made) (broken reason told)
+  pub reads_number : {mk : ℕ → Line} → WithNumber x mk → (number : Result ℕ Refusal) (line : Result Line Refusal) → MatchResult number (LastNumber 4294967295 t) (Breaks Numeric t column)
+      → MatchResult number (λ n. IsOkAnd line (λ l. l ≡ mk n)) (λ reason. line ≡ Err reason) → Reads bytes line
+  reads_number sort (Ok n) (Ok l) told made = subst (λ (u : List ℕ). Spells u l) (sym whole) (subst (Spells (x ∷ t)) (sym made) (number_spells sort t n told))
+  reads_number sort (Ok n) (Err reason) told made = absurd made
+  reads_number {mk = mk} sort (Err reason) line told made =
+      let to : (u : List ℕ) → Numeric u → Readable (x ∷ u) = λ u a. let n = last_of u a in record { line = mk n.0; spells = number_spells sort u n.0 n.1 } in
+      subst (Reads bytes) (sym made) (subst (λ (u : List ℕ). Unread u reason) (sym whole)
+      (unread x Numeric to sort.behind t reason (subst (λ (k : ℕ). Breaks Numeric t k reason) second told)))
 
-reads_alone : (mk : Line) {Told : Type 0} (Broken : Refusal → Type 0) {bytes : List ℕ} → (Told → Spells bytes mk) → ((reason : Refusal) → Broken reason → Unread bytes reason)
-    → (behind : Result (Unit {0}) Refusal) → MatchResult behind (λ _. Told) Broken → Reads bytes (result_and behind (Ok mk))
-reads_alone mk Broken spelled broken (Ok a) told = spelled told
-reads_alone mk Broken spelled broken (Err reason) told = broken reason told
-
--- what stands behind the first byte, from column 2 on
-module _ (bytes : List ℕ) {t : List ℕ} {column : ℕ} (some : 0 < length bytes) (left : t ≡ take (length bytes - 1) (drop 1 bytes)) (second : column ≡ 2) where
-  whole : (x : ℕ) → get_or bytes 0 0 ≡ x → bytes ≡ x ∷ t
-  whole x first = parted x some first ∙ ap (λ (u : List ℕ). x ∷ u) (sym left)
-
-  module _ (number : Result ℕ Refusal) (line : Result Line Refusal) (told : MatchResult number (LastNumber 4294967295 t) (Breaks Numeric t column)) where
-    from_two : MatchResult number (LastNumber 4294967295 t) (Breaks Numeric t 2)
-    from_two = subst (λ (n : ℕ). MatchResult number (LastNumber 4294967295 t) (Breaks Numeric t n)) second told
-
-    pub reads_open : get_or bytes 0 0 ≡ 66 → MatchResult number (λ n. IsOkAnd line (λ l. l ≡ Open n)) (λ reason. line ≡ Err reason) → Reads bytes line
-    reads_open first = reads_with Open (LastNumber 4294967295 t) (Breaks Numeric t 2) (λ n l. spells (Open n) l.fits (whole 66 first) l.is) (λ reason b. unread 66 (to_number 66 Open (λ n h. h) (λ n. refl)) (whole 66 first) b) number line from_two
-
-    pub reads_admit : get_or bytes 0 0 ≡ 65 → MatchResult number (λ n. IsOkAnd line (λ l. l ≡ Admit n)) (λ reason. line ≡ Err reason) → Reads bytes line
-    reads_admit first = reads_with Admit (LastNumber 4294967295 t) (Breaks Numeric t 2) (λ n l. spells (Admit n) l.fits (whole 65 first) l.is) (λ reason b. unread 65 (to_number 65 Admit (λ n h. h) (λ n. refl)) (whole 65 first) b) number line from_two
-
-    pub reads_withdraw : get_or bytes 0 0 ≡ 87 → MatchResult number (λ n. IsOkAnd line (λ l. l ≡ Withdraw n)) (λ reason. line ≡ Err reason) → Reads bytes line
-    reads_withdraw first = reads_with Withdraw (LastNumber 4294967295 t) (Breaks Numeric t 2) (λ n l. spells (Withdraw n) l.fits (whole 87 first) l.is) (λ reason b. unread 87 (to_number 87 Withdraw (λ n h. h) (λ n. refl)) (whole 87 first) b) number line from_two
-
-    pub reads_make : get_or bytes 0 0 ≡ 77 → MatchResult number (λ n. IsOkAnd line (λ l. l ≡ Make n)) (λ reason. line ≡ Err reason) → Reads bytes line
-    reads_make first = reads_with Make (LastNumber 4294967295 t) (Breaks Numeric t 2) (λ n l. spells (Make n) l.fits (whole 77 first) l.is) (λ reason b. unread 77 (to_number 77 Make (λ n h. h) (λ n. refl)) (whole 77 first) b) number line from_two
-
-  module _ (ended : Result (Unit {0}) Refusal) (told : MatchResult ended (λ _. End t) (Breaks End t column)) where
-    end_from_two : MatchResult ended (λ _. End t) (Breaks End t 2)
-    end_from_two = subst (λ (n : ℕ). MatchResult ended (λ _. End t) (Breaks End t n)) second told
-
-    pub reads_largest : get_or bytes 0 0 ≡ 76 → Reads bytes (result_and ended (Ok Largest))
-    reads_largest first = reads_alone Largest (Breaks End t 2) (λ e. spells Largest tt (whole 76 first) (sym e)) (λ reason b. unread 76 (to_alone 76 Largest tt refl) (whole 76 first) b) ended end_from_two
-
-    pub reads_gaps : get_or bytes 0 0 ≡ 71 → Reads bytes (result_and ended (Ok Gaps))
-    reads_gaps first = reads_alone Gaps (Breaks End t 2) (λ e. spells Gaps tt (whole 71 first) (sym e)) (λ reason b. unread 71 (to_alone 71 Gaps tt refl) (whole 71 first) b) ended end_from_two
+  pub reads_alone : {line : Line} → Alone x line → (ended : Result (Unit {0}) Refusal) → MatchResult ended (λ _. End t) (Breaks End t column) → Reads bytes (result_and ended (Ok line))
+  reads_alone {line = line} alone (Ok done) told = subst (λ (u : List ℕ). Spells u line) (sym whole) (alone_spells alone t told)
+  reads_alone {line = line} alone (Err reason) told =
+      let to : (u : List ℕ) → End u → Readable (x ∷ u) = λ u e. record { line = line; spells = alone_spells alone u e } in
+      subst (λ (u : List ℕ). Unread u reason) (sym whole) (unread x End to alone.behind t reason (subst (λ (k : ℕ). Breaks End t k reason) second told))

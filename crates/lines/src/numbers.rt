@@ -18,15 +18,25 @@ fn grown(value: Option<u32>, digit: u8, most: u32) -> Option<u32>
         .filter(|&next| next <= most)
 }
 
-/// The number of at most `most` in front of the bytes, and where it ends: at a byte that is no digit.
+/// A number in front of bytes, and the place at which it ends.
+#[derive(Clone, Copy)]
+pub(crate) struct Numeral {
+    pub(crate) value: u32,
+    pub(crate) end: usize,
+}
+
+/// The number of at most `most` in front of the bytes, which ends at a byte that is no digit.
 /// Refused with the first place at which no such number goes on: one past the last byte where the bytes end too early.
-pub(crate) fn number(bytes: &[u8], most: u32) -> Result<(u32, usize), usize>
-    ensures { MatchResult result (λ x. Numbered most bytes.now x.0 x.1) (Numberless most bytes.now) }
+pub(crate) fn number(bytes: &[u8], most: u32) -> Result<Numeral, usize>
+    ensures { MatchResult result (λ x. Numbered most bytes.now x.value x.end) (Numberless most bytes.now) }
 {
     let mut value = None;
     for (i, &b) in bytes.iter().enumerate() {
         if !b.is_ascii_digit() {
-            return Ok((value.ok_or(i)?, i));
+            return Ok(Numeral {
+                value: value.ok_or(i)?,
+                end: i,
+            });
         }
         value = Some(grown(value, b - b'0', most).ok_or(i)?);
     }

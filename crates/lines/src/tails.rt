@@ -46,9 +46,9 @@ impl<'a> Tail<'a> {
             return Err(Refusal::Unreadable(self.column));
         };
         match number(digits, most) {
-            Ok((value, end)) => {
-                *self = self.past(end + 1);
-                Ok(value)
+            Ok(numeral) => {
+                *self = self.past(numeral.end + 1);
+                Ok(numeral.value)
             }
             Err(place) => Err(Refusal::Unreadable(self.column + place + 1)),
         }

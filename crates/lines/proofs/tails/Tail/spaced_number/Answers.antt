@@ -13,8 +13,8 @@ returns-in_default c = breaks_space c.args.most c.args.self.now.bytes.now c.args
 
 pub returns-in-Ok : goal.returns-in-Ok
 returns-in-Ok c = record {
-  end = c.in-Ok.end + 1;
-  number = spaced (parted 32 (omega arith) (omega arith)) c.in-Ok.value c.in-Ok.end c.in-Ok.ensures;
+  end = c.in-Ok.numeral.end + 1;
+  number = spaced (parted 32 (omega arith) (omega arith)) c.in-Ok.numeral.value c.in-Ok.numeral.end c.in-Ok.ensures;
   behind = c.past.ensures.bytes;
   at = c.past.ensures.column;
 }
