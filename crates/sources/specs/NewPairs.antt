@@ -3,6 +3,7 @@ use Rattle.std.specs.Prelude.{◌≡◌, ℕ, ◌<◌, ◌≤◌, ◌⊎◌, Lis
 use Rattle.sources.specs.Divisors.{Common, Greatest}
 use Rattle.sources.specs.Pairs.{paired, First}
 use Rattle.sources.specs.declared.pair.stored.Pair.{Pair}
+use Rattle.tables.specs.Ranges.{InRange}
 use Rattle.tables.specs.Rows.{Table}
 use Rattle.tables.specs.declared.refusals.Refusal.{Refusal}
 use Rattle.tables.specs.declared.refusals.Refusal.TheVariants.{OutOfRange, AlreadyAdmitted, CommonDivisor}
@@ -14,10 +15,6 @@ pair_entry pair = paired pair.base pair.other pair.inverse
 -- The row of a pair: its base and its other unit.
 abbrev pub pair_row : Pair → List ℕ
 pair_row pair = pair.base ∷ pair.other ∷ []
-
--- n is 1 or more, up to a limit.
-abbrev pub InRange : ℕ → ℕ → Type 0
-InRange limit n = (1 ≤ n) × (n ≤ limit)
 
 -- There is an entry at r: the first of 0, other, 2 other, .. that leaves r by the base.
 pub record Enters (base other : ℕ) (entry : ℕ → Option ℕ) (r : ℕ) : Type 0 where

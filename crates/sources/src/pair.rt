@@ -3,26 +3,12 @@
 mod showing;
 mod stored;
 
-ghost use Rattle.std.specs.Prelude.{◌≡◌, MatchResult};
-ghost use Rattle.sources.specs.NewPairs.{InRange, New, pair_entry};
+ghost use Rattle.sources.specs.NewPairs.{New, pair_entry};
 ghost use Rattle.sources.specs.PairLaws.{entry_past, paired_lawful};
-ghost use Rattle.tables.specs.declared.refusals.Refusal.TheVariants.{OutOfRange};
 
 use crate::divisors::solve;
 pub use stored::Pair;
-use tables::{Entries, Refusal, Source};
-
-/// Refuses a size that is not 1 up to a limit.
-fn check_range(size: u32, limit: u32) -> Result<(), Refusal>
-    ensures { MatchResult result
-        (λ _. InRange limit size)
-        (λ reason. (reason ≡ OutOfRange size) × (InRange limit size → ⊥)) }
-{
-    if !(1..=limit).contains(&size) {
-        return Err(Refusal::OutOfRange(size));
-    }
-    Ok(())
-}
+use tables::{Entries, LARGEST_BASE, LARGEST_SIZE, Refusal, Source, check_range};
 
 impl Pair {
     /// The pair of a base and another unit. Refused, in this order, where the base is not 1 to 4,096, where the other unit
@@ -30,8 +16,8 @@ impl Pair {
     pub fn new(base: u32, other: u32) -> Result<Pair, Refusal>
         ensures { New base other result }
     {
-        check_range(base, 4096)?;
-        check_range(other, 65535)?;
+        check_range(base, LARGEST_BASE)?;
+        check_range(other, LARGEST_SIZE)?;
         if other == base {
             return Err(Refusal::AlreadyAdmitted(other));
         }

@@ -8,3 +8,4 @@ pub mod Rules
 pub mod Steps
 pub mod Tests
 pub mod Made
+pub mod Ranges

@@ -3,6 +3,7 @@
 
 mod making;
 mod missing;
+mod ranges;
 mod refusals;
 mod rules;
 mod showing;
@@ -11,6 +12,7 @@ mod stepping;
 
 pub use making::make;
 pub use missing::{gaps, largest};
+pub use ranges::{LARGEST_BASE, LARGEST_SIZE, MOST_UNITS, check_range};
 pub use refusals::Refusal;
 pub use rules::certificate_holds;
 pub use showing::Showing;

@@ -11,13 +11,7 @@ use crate::rebuild::{Marks, rebuild};
 use crate::rings::extend;
 use crate::sizes::find;
 use std::alloc::Global;
-use tables::Refusal;
-
-/// The largest size that a base may have.
-const LARGEST_BASE: u32 = 4_096;
-
-/// The largest size that any other unit may have.
-const LARGEST_SIZE: u32 = 65_535;
+use tables::{LARGEST_BASE, LARGEST_SIZE, Refusal, check_range};
 
 /// Writes the entries of a base alone: 0 at 0, and no other.
 fn begin(entries: &mut Vec<Option<u32>>, base: u16)
@@ -29,9 +23,7 @@ fn begin(entries: &mut Vec<Option<u32>>, base: u16)
 {
     entries.clear();
     entries.push_reserved(Some(0));
-    for _ in 1..base {
-        entries.push_reserved(None);
-    }
+    entries.resize(usize::from(base), None).unwrap();
 }
 
 impl Book {
@@ -39,9 +31,7 @@ impl Book {
     pub fn open(heap: Global, base: u32) -> Result<Book, Refusal>
         ensures { Opens base result }
     {
-        if base < 1 || base > LARGEST_BASE {
-            return Err(Refusal::OutOfRange(base));
-        }
+        check_range(base, LARGEST_BASE)?;
         let others = Vec::with_capacity(heap, MOST_OTHERS)?;
         let mut entries = Vec::with_capacity(heap, LARGEST_BASE as usize)?;
         let loads = Vec::with_capacity(heap, LARGEST_BASE as usize)?;
@@ -61,9 +51,7 @@ impl Book {
         ensures turns { Admits self.old size result self.new }
         ensures table { Table (row_of self.new) (table_of self.new) }
     {
-        if size < 1 || size > LARGEST_SIZE {
-            return Err(Refusal::OutOfRange(size));
-        }
+        check_range(size, LARGEST_SIZE)?;
         if size == u32::from(self.base) {
             return Err(Refusal::AlreadyAdmitted(size));
         }
@@ -74,7 +62,7 @@ impl Book {
             return Err(Refusal::RowFull);
         }
         extend(&mut self.entries, size);
-        let _ = self.others.insert(at, size as u16);
+        self.others.insert(at, size as u16).unwrap();
         Ok(())
     }
 

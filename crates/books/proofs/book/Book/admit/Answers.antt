@@ -18,8 +18,8 @@ use Rattle.books.proofs.Refused.{admit_there, admit_full, admit_fits}
 use Rattle.books.proofs.Turned.{turns_refused, turns_accepted}
 use Rattle.books.proofs.book.Book.admit.Goals as goal
 
-pub returns-then-size-lt1 : goal.returns-then-size-lt1
-returns-then-size-lt1 c = record { turns = search rules; table = book_table c.args.self.now }
+pub returns-in_err-check_range-clause-table : goal.returns-in_err-check_range-clause-table
+returns-in_err-check_range-clause-table c = book_table c.args.self.now
 
 pub returns-then-size-from : goal.returns-then-size-from
 returns-then-size-from c = record { turns = search rules; table = book_table c.args.self.now }
@@ -31,7 +31,7 @@ returns-in_default c =
       turns =
           turns_refused _ _ _ _
           (admit_there c.args.self.now.base xs c.args.size (λ e. c.if-size-from.false (sym e ∙ sym c.from.ensures))
-          c.if-size-lt1.false c.if-size-gt-LARGEST_SIZE.false (has_place c.args.size xs _ _ c.as_slice.ensures.value c.in_default.ensures));
+          c.in_ok-check_range.ensures.0 c.in_ok-check_range.ensures.1 (has_place c.args.size xs _ _ c.as_slice.ensures.value c.in_default.ensures));
       table = book_table c.args.self.now;
     }
 
@@ -42,7 +42,7 @@ returns-then-len-ge-MOST_OTHERS c =
       turns =
           turns_refused _ _ _ _
           (admit_full c.args.self.now.base xs c.args.size (λ e. c.if-size-from.false (sym e ∙ sym c.from.ensures))
-          c.if-size-lt1.false c.if-size-gt-LARGEST_SIZE.false
+          c.in_ok-check_range.ensures.0 c.in_ok-check_range.ensures.1
           (has_no_place c.args.size xs _ _ c.as_slice.ensures.value c.args.self.now.rising c.in-Err.ensures)
           (omega (arith, c.args.self.now.others.ok.0)));
       table = book_table c.args.self.now;
@@ -64,7 +64,7 @@ extend-requires c =
     record {
       few = omega (arith, book.low, book.high, book.full);
       leaves = subst (λ (z : ℕ). Leaves z (entry_of (vec_items book.entries))) e book.leaves;
-      room = subst (λ (z : ℕ). Room z c.args.size (entry_of (vec_items book.entries))) e (book_room book c.args.size c.if-size-gt-LARGEST_SIZE.false);
+      room = subst (λ (z : ℕ). Room z c.args.size (entry_of (vec_items book.entries))) e (book_room book c.args.size c.in_ok-check_range.ensures.1);
     }
 
 -- the new entries keep the rules of the row with the new unit
@@ -88,8 +88,8 @@ invariant_of-self c =
     let l = place c in
     let units = vec_items c.insert.new.self in
     let nu = vec_items c.extend.new.entries in
-    let sized : Sized units = subst Sized (sym e) (in_each xs at g l.0 (λ (x : ℕ). 1 ≤ x) book.sized c.if-size-lt1.false) in
-    let small : Small units = subst Small (sym e) (in_each xs at g l.0 (λ (x : ℕ). x ≤ 65535) book.small c.if-size-gt-LARGEST_SIZE.false) in
+    let sized : Sized units = subst Sized (sym e) (in_each xs at g l.0 (λ (x : ℕ). 1 ≤ x) book.sized c.in_ok-check_range.ensures.0) in
+    let small : Small units = subst Small (sym e) (in_each xs at g l.0 (λ (x : ℕ). x ≤ 65535) book.small c.in_ok-check_range.ensures.1) in
     let rising : Rising units = subst Rising (sym e) (in_rising xs at g l.0 book.rising l.1 l.2) in
     let apart : Apart book.base units =
     subst (Apart book.base) (sym e) (in_each xs at g l.0 (λ (x : ℕ). x ≡ book.base → ⊥) book.apart (λ q. c.if-size-from.false (q ∙ sym c.from.ensures))) in
@@ -130,7 +130,7 @@ returns c =
       turns =
           turns_accepted _ _ _ _
           (admit_fits c.args.self.now.base xs c.args.size (λ e. c.if-size-from.false (sym e ∙ sym c.from.ensures))
-          c.if-size-lt1.false c.if-size-gt-LARGEST_SIZE.false
+          c.in_ok-check_range.ensures.0 c.in_ok-check_range.ensures.1
           (has_no_place c.args.size xs _ _ c.as_slice.ensures.value c.args.self.now.rising c.in-Err.ensures)
           (omega (arith, c.args.self.now.others.ok.0)))
           (ap (λ (l : List ℕ). c.args.self.now.base ∷ l)

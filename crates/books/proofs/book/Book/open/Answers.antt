@@ -19,14 +19,14 @@ invariant_of-result c =
     let apart : Apart base others = λ i h e. absurd (omega (arith, no)) in
     let few : vec_len c.in_ok-others.others ≤ 15 = omega (arith, made.len) in
     let full : vec_len c.begin.new.entries ≡ base =
-    omega (arith, c.begin.new.entries.ok.0, begun_full base (base - 1) entries is c.if-base-lt1.false refl) in
+    omega (arith, c.begin.new.entries.ok.0, begun_full base (base - 1) entries is c.in_ok-check_range.ensures.0 refl) in
     let start = begun_start base (base - 1) entries is in
     let leaves = begun_leaves base (base - 1) entries is in
     let closed = begun_closed base (base - 1) entries is others made.items in
     let stepped = begun_stepped base (base - 1) entries is others in
     record {
-      low = c.if-base-lt1.false;
-      high = c.if-base-gt-LARGEST_BASE.false;
+      low = c.in_ok-check_range.ensures.0;
+      high = c.in_ok-check_range.ensures.1;
       sized = sized;
       small = small;
       rising = rising;
@@ -47,7 +47,7 @@ returns c =
     let base = c.args.base in
     let entries = vec_items c.begin.new.entries in
     let is = c.begin.ensures.items in
-    opens_accepted _ base _ (open_fits base c.if-base-lt1.false c.if-base-gt-LARGEST_BASE.false)
+    opens_accepted _ base _ (open_fits base c.in_ok-check_range.ensures.0 c.in_ok-check_range.ensures.1)
     record {
       row = ap (λ (xs : List ℕ). base ∷ xs) c.in_ok-others.ensures.items;
       zero = begun_start base (base - 1) entries is;
