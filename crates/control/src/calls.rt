@@ -26,8 +26,9 @@ fn write_numbers(numbers: &[u32], out: &mut [u8])
     requires { 4 * length numbers.now ≤ length out.old }
     ensures { out.new ≡ flat_map be32 numbers.now ++ drop (4 * length numbers.now) out.old }
 {
-    for at in 0..numbers.len() {
-        out[4 * at..4 * at + 4].copy_from_slice(&numbers[at].to_be_bytes());
+    // Over `out.chunks_exact_mut(4).zip(numbers)` the proof does not close: the library does not say what the bytes are once lent chunks end.
+    for (at, number) in numbers.iter().enumerate() {
+        out[4 * at..4 * at + 4].copy_from_slice(&number.to_be_bytes());
     }
 }
 

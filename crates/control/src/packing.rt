@@ -5,6 +5,7 @@ ghost use Rattle.control.specs.Packing.{InBytes, Packed, Short};
 use tables::Refusal;
 
 /// The number that stands for a refusal: 2 to the power 32 times its number, and its place.
+// The C interface answers by one number: a C caller has no enum whose variants hold values.
 pub(crate) fn pack(reason: Refusal) -> u64
     requires { Short 4294967296 reason }
     ensures { Packed reason result }

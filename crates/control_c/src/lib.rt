@@ -3,6 +3,8 @@
 
 ghost use Rattle.control.specs.Calls.{JudgesBytes, MakesBytes};
 
+// Only a static library exports to C, and no crate can stand on one: so `control` has the bodies, and each call here passes on.
+
 /// Judges the bytes of a file: 0, or the packed refusal.
 #[unsafe(no_mangle)]
 pub extern "C" fn tovleng_judge(file: &[u8]) -> u64

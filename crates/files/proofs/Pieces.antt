@@ -4,6 +4,8 @@ use Rattle.std.proofs.Math.ListN.{replicate}
 use Rattle.std.proofs.lemmas.Grind.{same_number_lists, common_steps}
 use Rattle.std.proofs.lemmas.List.{get_or-drop, get_or-take, length-take-le}
 use Rattle.std.proofs.lemmas.List.FromFn.{get_or-map-range_with_len, length-map-range_with_len}
+use Rattle.std.specs.List.{between}
+use Rattle.std.proofs.lemmas.Slice.{between_to_end}
 use Rattle.files.specs.Fields.{bytes_at}
 
 module _ (bytes xs : List ℕ) (p n : ℕ) where
@@ -12,13 +14,21 @@ module _ (bytes xs : List ℕ) (p n : ℕ) where
       same_number_lists xs (bytes_at bytes p n) (long ∙ sym (length-map-range_with_len (λ k. get_or bytes k 0) p n))
       (λ i low. each i (omega arith) ∙ get_or-drop p bytes i 0 ∙ sym (get_or-map-range_with_len (λ k. get_or bytes k 0) p n i (p + i) 0 (omega arith) refl))
 
-  -- all of them are there
-  pub bytes_there : n ≤ length (drop p bytes) → xs ≡ take n (drop p bytes) → xs ≡ bytes_at bytes p n
-  bytes_there enough is =
-      bytes_are (ap length is ∙ length-take-le n (drop p bytes) enough)
-      (λ i low. ap (λ (zs : List ℕ). get_or zs i 0) is ∙ get_or-take n (drop p bytes) i 0 low)
+module _ (bytes rest : List ℕ) (p n : ℕ) (is : rest ≡ between p (length bytes) bytes) where
+  from : rest ≡ drop p bytes
+  from = is ∙ between_to_end bytes p (length bytes) (omega arith)
 
--- some lie past the end: zeros in which the others are put in front
-pub bytes_cut : (bytes : List ℕ) (p n : ℕ) → length (drop p bytes) < n → drop p bytes ++ drop (length (drop p bytes)) (replicate n 0) ≡ bytes_at bytes p n
-bytes_cut bytes p n h =
-    bytes_are bytes (drop p bytes ++ drop (length (drop p bytes)) (replicate n 0)) p n (grind (arith, common_steps)) (λ i low. grind (arith, common_steps))
+  -- all of them are there
+  pub bytes_there : (xs : List ℕ) → n ≤ length rest → xs ≡ take n rest → xs ≡ bytes_at bytes p n
+  bytes_there xs enough front =
+      bytes_are bytes xs p n (ap length front ∙ length-take-le n rest enough)
+      (λ i low. ap (λ (zs : List ℕ). get_or zs i 0) front ∙ get_or-take n rest i 0 low ∙ ap (λ (zs : List ℕ). get_or zs i 0) from)
+
+  -- some lie past the end: zeros, with the others in front
+  pub bytes_cut : length rest < n → rest ++ drop (length rest) (replicate n 0) ≡ bytes_at bytes p n
+  bytes_cut h =
+      bytes_are bytes (rest ++ drop (length rest) (replicate n 0)) p n (grind (arith, common_steps)) (λ i low. grind (arith, common_steps, from))
+
+-- all lie past the end
+pub bytes_past : (bytes : List ℕ) (p n : ℕ) → length bytes < p → replicate n 0 ≡ bytes_at bytes p n
+bytes_past bytes p n h = bytes_are bytes (replicate n 0) p n (grind (arith, common_steps)) (λ i low. grind (arith, common_steps))

@@ -21,9 +21,10 @@ fn closed(file: &[u8], remainder: u32, load: u32) -> bool
     requires { remainder < file_base file.now }
     ensures { Decides result (Closed (file_base file.now) (file_others file.now) (file_entry file.now) remainder load) }
 {
+    let base = base(file);
     (0..others(file)).all(|place| {
         let size = other(file, place);
-        let above = (remainder + u32::from(size)) % base(file);
+        let above = (remainder + u32::from(size)) % base;
         within(file, above, u64::from(load) + u64::from(size))
     })
 }

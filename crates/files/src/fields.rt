@@ -3,18 +3,13 @@
 ghost use Rattle.std.specs.Prelude.{◌≡◌, ◌+◌, ◌≤◌, ◌++◌, length, take, drop};
 ghost use Rattle.files.specs.Fields.{bytes_at};
 
-/// What a file has from an offset on.
-fn rest(file: &[u8], at: usize) -> &[u8]
-    ensures { result.now ≡ drop at file.now }
-{
-    file.get(at..).unwrap_or_default()
-}
-
 /// The bytes at an offset. Where all of them are there, one test is enough.
 pub(crate) fn read<const N: usize>(file: &[u8], at: usize) -> [u8; N]
     ensures { result ≡ bytes_at file.now at N }
 {
-    let rest = rest(file, at);
+    let Some(rest) = file.get(at..) else {
+        return [0; N];
+    };
     if let Some(bytes) = rest.first_chunk() {
         return *bytes;
     }

@@ -65,5 +65,6 @@ pub fn entry(file: &[u8], remainder: u32) -> Option<u32>
         return None;
     }
     let at = 8 + 2 * others(file) + 4 * remainder as usize;
-    Some(u32::from_be_bytes(read(file, at))).filter(|&load| load < ABSENT)
+    let load = u32::from_be_bytes(read(file, at));
+    (load < ABSENT).then_some(load)
 }
