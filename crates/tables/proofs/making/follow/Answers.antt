@@ -37,10 +37,6 @@ pub bounds-counts-position : goal.bounds-counts-position
 bounds-counts-position g c =
     omega (arith, (step_told c.loop-position.rest (g.met.S.Showing.ordered c.args.source.now) (g.met.S.Showing.table c.args.source.now) c.base-base.ensures (g.met.S.Showing.based c.args.source.now) c.in-Some.ensures).inside)
 
-pub overflow_add-counts : goal.overflow_add-counts
-overflow_add-counts g c =
-    omega (arith, c.loop-position.invariant.bounded c.in-Some.position, (g.met.S.Source.lawful c.args.source.now).fits (c.args.entry % g.S.Entries.modulus c.args.source.now) c.args.entry c.requires.present)
-
 pub bounds-counts-position-in-Some : goal.bounds-counts-position-in-Some
 bounds-counts-position-in-Some g c =
     omega (arith, (step_told c.loop-position.rest (g.met.S.Showing.ordered c.args.source.now) (g.met.S.Showing.table c.args.source.now) c.base-base.ensures (g.met.S.Showing.based c.args.source.now) c.in-Some.ensures).inside)
