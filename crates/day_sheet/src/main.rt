@@ -8,7 +8,9 @@ use std::io::{Read, Write};
 /// Reads standard input, of which one byte more than a sheet may have is enough to refuse it.
 fn read_sheet(rt: &(impl Input + AllocGlobal)) -> io::Result<Vec<u8>> {
     let mut input = Vec::new(rt.alloc());
-    rt.reader().take(LONGEST as u64 + 1).read_to_end(&mut input)?;
+    rt.reader()
+        .take(LONGEST as u64 + 1)
+        .read_to_end(&mut input)?;
     Ok(input)
 }
 

@@ -39,7 +39,7 @@ impl<'a> Tail<'a> {
     }
 
     /// Takes one space and a number of at most `most` from the front.
-    fn spaced_number(&mut self, most: u32) -> Result<u32, Refusal>
+    pub(crate) fn spaced_number(&mut self, most: u32) -> Result<u32, Refusal>
         ensures { MatchResult result (λ value. Passes most self.old.bytes.now self.old.column value self.new.bytes.now self.new.column) (Breaks (Spaced most Bare) self.old.bytes.now self.old.column) }
     {
         let [b' ', digits @ ..] = self.bytes else {
