@@ -48,6 +48,7 @@ pub(crate) fn other(file: &[u8], place: usize) -> u16
 }
 
 /// The size of the unit at a position, the base at 0; none past the last.
+#[tactic(auto, using(crate::proofs::Places::row_at, crate::proofs::Places::row_past))]
 pub fn size(file: &[u8], position: usize) -> Option<u16>
     ensures { result ≡ slice_get (file_row file.now) position }
 {
