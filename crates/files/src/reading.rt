@@ -6,6 +6,8 @@ ghost use Rattle.std.specs.List.{slice_get};
 
 use crate::fields::read;
 
+// The bytes are passed as they are: a struct round them would hold nothing else, and the public calls take bytes.
+
 /// The number that stands for an absent entry.
 pub(crate) const ABSENT: u32 = 4_294_967_295;
 
