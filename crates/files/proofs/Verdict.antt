@@ -1,5 +1,5 @@
 -- From the checks of a file to the verdict on it.
-use Rattle.std.proofs.Common.{◌≡◌, ℕ, List, IsErrAnd, MatchResult, Result, Ok, Err, sym, ◌∙◌}
+use Rattle.std.proofs.Common.{◌≡◌, ℕ, List, IsErrAnd, MatchResult, Result, Ok, Err, sym, ◌∙◌, inl, inr}
 use Rattle.std.proofs.lemmas.Result.{err_from_is_err_and}
 use Rattle.tables.specs.Rules.{Rules}
 use Rattle.tables.proofs.Certificate.{sound, complete}
@@ -7,11 +7,11 @@ use Rattle.tables.specs.declared.refusals.Refusal.{Refusal}
 use Rattle.tables.specs.declared.refusals.Refusal.TheVariants.{Malformed, Untrue}
 use Rattle.files.specs.Checks.{FirstFalse}
 use Rattle.files.specs.Entries.{entry_past}
-use Rattle.files.specs.Faults.{Fault}
+use Rattle.files.specs.Faults.{Fault, FirstFault}
 use Rattle.files.specs.Judged.{Judges, Rejects, TrueFile, malformed, untrue}
 use Rattle.files.specs.Fields.{Bytes}
 use Rattle.files.specs.Layout.{WellFormed, file_base, file_entry, file_others}
-use Rattle.files.proofs.Firsts.{no_fault}
+use Rattle.files.proofs.Firsts.{no_fault, one_fault}
 use Rattle.files.proofs.Formed.{formed_low, others_sized}
 
 module _ (bytes : List ℕ) where
@@ -49,6 +49,10 @@ module _ (bytes : List ℕ) where
   pub formed : (r : Result (Unit {0}) ℕ) (told : Result (Unit {0}) Refusal) (u : Unit {0}) → Laid r → Told Malformed r told → told ≡ Ok u → WellFormed bytes × Bytes bytes
   formed (Ok _) told u laid same ok = laid
   formed (Err offset) told u fault same ok = absurd (rw ok at same)
+
+  pub first_fault : (r : Result (Unit {0}) ℕ) → Laid r → FirstFault bytes
+  first_fault (Ok _) laid = record { either = inl laid.0; one = one_fault bytes; none = no_fault bytes }
+  first_fault (Err offset) fault = record { either = inr (offset, fault); one = one_fault bytes; none = no_fault bytes }
 
   pub judged : (r : Result (Unit {0}) ℕ) (told : Result (Unit {0}) Refusal) → WellFormed bytes → Ruled r → Told Untrue r told → Judges bytes told
   judged (Ok _) told formed rules ok = rw ok (rules_true formed rules)

@@ -6,6 +6,8 @@ ghost use Rattle.std.specs.List.{slice_get};
 
 use crate::fields::read;
 
+// The bytes are passed as they are: a struct round them would hold nothing else, and the public calls take bytes.
+
 /// The number that stands for an absent entry.
 pub(crate) const ABSENT: u32 = 4_294_967_295;
 
@@ -48,6 +50,7 @@ pub(crate) fn other(file: &[u8], place: usize) -> u16
 }
 
 /// The size of the unit at a position, the base at 0; none past the last.
+#[tactic(auto, using(crate::proofs::Places::row_at, crate::proofs::Places::row_past))]
 pub fn size(file: &[u8], position: usize) -> Option<u16>
     ensures { result ≡ slice_get (file_row file.now) position }
 {

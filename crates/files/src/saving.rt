@@ -23,6 +23,10 @@ fn write_head(units: u8, base: u16, out: &mut [u8])
     write(out, 6, base.to_be_bytes());
 }
 
+// The next two loops write each part at its offset: over `out.chunks_exact_mut(2)` the proof does not close, since the library does
+// not say what the memory holds once its chunks are given back. As one function they would take a closure with clauses of its own,
+// `|place| requires { .. } { source.size(place + 1).unwrap().to_be_bytes() }`, which is no plainer.
+
 /// Writes the sizes of the units other than the base.
 fn write_sizes<S: Showing>(source: &S, others: usize, out: &mut [u8])
     requires all { length (S.Showing.row source.now) ≡ others + 1 }

@@ -2,7 +2,7 @@ use Rattle.std.proofs.Common.{rules}
 use Rattle.std.proofs.lemmas.Result.{err_from_is_err_and}
 use Rattle.files.specs.Rounds.{WrittenAgain}
 use Rattle.files.proofs.Again.{written_again}
-use Rattle.files.proofs.Verdict.{unformed, formed, judged}
+use Rattle.files.proofs.Verdict.{unformed, first_fault, formed, judged}
 use Rattle.files.proofs.judging.judge.Goals as goal
 
 pub returns-in_err-map_err-clause-verdict : goal.returns-in_err-map_err-clause-verdict
@@ -21,3 +21,6 @@ returns-clause-again c =
     let b = c.args.file.now in
     let f = formed b c.check_layout.result c.map_err.result c.in_ok-map_err.field-0 c.check_layout.ensures c.map_err.ensures.cases c.in_ok-map_err.was in
     let again : WrittenAgain b = written_again b f.1 f.0 in search (rules, again)
+
+pub returns-in_err-map_err-clause-fault : goal.returns-in_err-map_err-clause-fault
+returns-in_err-map_err-clause-fault c = first_fault c.args.file.now c.check_layout.result c.check_layout.ensures

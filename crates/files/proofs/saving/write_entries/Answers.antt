@@ -1,12 +1,9 @@
 use Rattle.std.proofs.Common.{◌≡◌, ℕ, ◌+◌, ◌*◌, List, ◌++◌, take, drop, None, Option, sym, refl, ap, ◌∙◌, subst, arith}
 use Rattle.files.specs.Fields.{be32}
 use Rattle.files.specs.Written.{entries_from, entry_bytes, entry_number}
-use Rattle.files.proofs.Fronts.{part_none, part_more, part_all}
+use Rattle.files.proofs.Fronts.{part_more, part_all}
 use Rattle.files.proofs.Spelt.{entries_at, entries_length}
 use Rattle.files.proofs.saving.write_entries.Goals as goal
-
-pub loop-remainder-init : goal.loop-remainder-init
-loop-remainder-init g c = part_none entry_bytes c.args.out.now c.args.at
 
 pub loop-remainder-preserved : goal.loop-remainder-preserved
 loop-remainder-preserved g c =

@@ -1,14 +1,9 @@
-use Rattle.std.proofs.Common.{◌≡◌, ℕ, ◌+◌, ◌*◌, List, ◌++◌, get_or, take, drop, is_some, sym, refl, ap, ◌∙◌, subst, arith, length-drop}
+use Rattle.std.proofs.Common.{◌≡◌, ℕ, ◌+◌, ◌*◌, List, ◌++◌, get_or, take, drop, sym, refl, ap, ◌∙◌, subst, arith, length-drop}
 use Rattle.std.proofs.lemmas.List.{get_or-drop}
-use Rattle.std.proofs.lemmas.Option.{slice_get-get_or}
 use Rattle.tables.proofs.Follows.{size_told}
 use Rattle.files.specs.Fields.{be16}
-use Rattle.files.proofs.Fronts.{part_more, part_all}
+use Rattle.files.proofs.Fronts.{part_more}
 use Rattle.files.proofs.saving.write_sizes.Goals as goal
-
-pub unwrap-size-requires : goal.unwrap-size-requires
-unwrap-size-requires g c =
-    ap is_some (c.size.ensures ∙ slice_get-get_or (g.S.Showing.row c.args.source.now) (c.loop-place.place + 1) 0 (omega arith))
 
 pub loop-place-preserved : goal.loop-place-preserved
 loop-place-preserved g c =
@@ -21,9 +16,3 @@ loop-place-preserved g c =
     part_more be16 2 (λ x. refl) (drop 1 row) 0 c.args.out.now c.loop-place.out _ 8 i
     (omega (arith, length-drop 1 row)) (omega arith) c.loop-place.invariant
     (subst (λ (bytes : List ℕ). c.write.new.out ≡ take (8 + 2 * i) c.loop-place.out ++ bytes ++ drop (8 + 2 * i + 2) c.loop-place.out) (c.to_be_bytes.ensures ∙ ap be16 told) c.write.ensures)
-
-pub returns : goal.returns
-returns g c =
-    let row : List ℕ = g.S.Showing.row c.args.source.now in
-    part_all be16 2 (drop 1 row) c.args.out.now c.loop-place.out 8 c.loop-place.place c.args.others
-    (omega (arith, length-drop 1 row)) (omega arith) c.loop-place.invariant
