@@ -3,6 +3,7 @@ pub mod Rings
 pub mod Candidates
 pub mod Pointers
 pub mod Merges
+pub mod Merging
 pub mod Leasts
 pub mod Strips
 pub mod Books

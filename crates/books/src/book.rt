@@ -11,6 +11,8 @@ mod filing;
 mod showing;
 mod source;
 
+use crate::rebuild::Loads;
+
 /// How many units may stand beside the base.
 pub(crate) const MOST_OTHERS: usize = 15;
 
@@ -25,7 +27,7 @@ pub struct Book {
     base: u16,
     others: Vec<u16>,
     entries: Vec<Option<u32>>,
-    loads: Vec<u32>,
+    loads: Loads,
     ghost low: { 1 ≤ base },
     ghost high: { base ≤ 4096 },
     ghost sized: { Sized others.items },
@@ -36,7 +38,7 @@ pub struct Book {
     ghost room: { 15 ≤ vec_capacity others },
     ghost full: { vec_len entries ≡ base },
     ghost space: { 4096 ≤ vec_capacity entries },
-    ghost places: { 4096 ≤ vec_capacity loads },
+    ghost places: { 4096 ≤ vec_capacity loads.list },
     ghost start: { entry_of entries.items 0 ≡ Some 0 },
     ghost leaves: { Leaves base (entry_of entries.items) },
     ghost closed: { AllClosed base others.items (entry_of entries.items) },

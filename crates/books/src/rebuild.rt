@@ -11,6 +11,7 @@ ghost use Rattle.tables.specs.Tables.{entry_of};
 
 mod candidates;
 mod entries;
+mod loads;
 mod marks;
 mod merges;
 mod pointers;
@@ -18,8 +19,9 @@ mod pointers;
 use crate::book::MOST_OTHERS;
 use candidates::Candidate;
 use entries::enter;
+pub(crate) use loads::Loads;
 pub(crate) use marks::Marks;
-use merges::merge;
+use merges::Merge;
 use pointers::{Pointer, start};
 use waiting::Waiting;
 
@@ -30,12 +32,11 @@ fn tabulate(
     others: &[u16],
     entries: &mut [Option<u32>],
     strip: &mut [u8],
-    loads: &mut Vec<u32>,
+    loads: &mut Loads,
 )
     requires row { (1 ≤ base) × ((base ≤ 4096) × (length others.now ≤ 15)) }
-    requires lent { (length entries.old ≡ base) × ((length strip.old ≡ base) × (base ≤ vec_capacity loads.old)) }
-    ensures table { Table (base ∷ others.now) (entry_of entries.new) }
-    ensures capacity { vec_capacity loads.new ≡ vec_capacity loads.old }
+    requires lent { (length entries.old ≡ base) × (length strip.old ≡ base) }
+    ensures { Table (base ∷ others.now) (entry_of entries.new) }
 {
     let mut pointers = [Pointer { size: 0, at: 0 }; MOST_OTHERS];
     let pointers = &mut pointers[..others.len()];
@@ -44,10 +45,17 @@ fn tabulate(
         load: 0,
         position: 0,
     }; MOST_OTHERS];
-    let mut waiting = Waiting::over(&mut slots);
     strip.fill(0);
-    merge(base, strip, loads, pointers, &mut waiting);
-    enter(base, loads.as_slice(), entries);
+    let waiting = Waiting::over(&mut slots);
+    let mut merge = Merge {
+        base,
+        strip,
+        loads,
+        pointers,
+        waiting,
+    };
+    merge.run();
+    enter(base, merge.loads.as_slice(), entries);
 }
 
 /// The same over a row and a table that are held in vectors, whose lengths and capacities stay.
@@ -56,14 +64,13 @@ pub(crate) fn rebuild(
     others: &Vec<u16>,
     entries: &mut Vec<Option<u32>>,
     strip: &mut [u8],
-    loads: &mut Vec<u32>,
+    loads: &mut Loads,
 )
     requires row { (1 ≤ base) × ((base ≤ 4096) × (vec_len others.now ≤ 15)) }
-    requires lent { (vec_len entries.old ≡ base) × ((length strip.old ≡ base) × (base ≤ vec_capacity loads.old)) }
+    requires lent { (vec_len entries.old ≡ base) × (length strip.old ≡ base) }
     ensures table { Table (base ∷ others.now.items) (entry_of entries.new.items) }
     ensures len { vec_len entries.new ≡ vec_len entries.old }
     ensures capacity { vec_capacity entries.new ≡ vec_capacity entries.old }
-    ensures places { vec_capacity loads.new ≡ vec_capacity loads.old }
 {
     tabulate(
         base,

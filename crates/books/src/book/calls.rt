@@ -7,7 +7,7 @@ ghost use Rattle.books.specs.Calls.{Admits, Opens, Withdraws};
 ghost use Rattle.books.specs.Strips.{StripLeft};
 
 use super::{Book, MOST_OTHERS};
-use crate::rebuild::{Marks, rebuild};
+use crate::rebuild::{Loads, Marks, rebuild};
 use crate::rings::extend;
 use crate::sizes::find;
 use std::alloc::Global;
@@ -34,7 +34,7 @@ impl Book {
         check_range(base, LARGEST_BASE)?;
         let others = Vec::with_capacity(heap, MOST_OTHERS)?;
         let mut entries = Vec::with_capacity(heap, LARGEST_BASE as usize)?;
-        let loads = Vec::with_capacity(heap, LARGEST_BASE as usize)?;
+        let loads = Loads::new(heap)?;
         let base = base as u16;
         begin(&mut entries, base);
         Ok(Book {

@@ -11,8 +11,7 @@ returns c =
       table =
           subst (λ (xs : List (Option ℕ)). Table (c.args.base ∷ vec_items c.args.others.now) (entry_of xs))
           (sym (take_at nu (drop (length nu) c.args.entries.now.items) c.args.entries.now.len (c.tabulate.auto.entries ∙ c.as_mut_slice.ensures.len)))
-          (subst (λ (xs : List ℕ). Table (c.args.base ∷ xs) (entry_of nu)) c.as_slice.ensures.value c.tabulate.ensures.table);
+          (subst (λ (xs : List ℕ). Table (c.args.base ∷ xs) (entry_of nu)) c.as_slice.ensures.value c.tabulate.ensures);
       len = refl;
       capacity = refl;
-      places = c.tabulate.ensures.capacity;
     }

@@ -64,7 +64,7 @@ invariant_of-self c =
     let room : 15 ≤ vec_capacity c.remove.new.self = omega (arith, book.room, c.remove.ensures.capacity) in
     let full : vec_len c.rebuild.new.entries ≡ book.base = c.rebuild.ensures.len ∙ book.full in
     let space : 4096 ≤ vec_capacity c.rebuild.new.entries = omega (arith, book.space, c.rebuild.ensures.capacity) in
-    let places : 4096 ≤ vec_capacity c.rebuild.new.loads = omega (arith, c.rebuild.ensures.places, book.places) in
+    let places : 4096 ≤ vec_capacity c.rebuild.new.loads.list = c.rebuild.new.loads.space in
     let past : (r : ℕ) → book.base ≤ r → entry_of nu r ≡ None =
     λ r h. get_or_past nu r None (omega (arith, c.rebuild.new.entries.ok.0, full)) in
     let table : Table (book.base ∷ units) (entry_of nu) = subst (λ (m : ℕ). Table (m ∷ units) (entry_of nu)) c.from-base.ensures c.rebuild.ensures.table in
