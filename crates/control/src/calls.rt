@@ -7,9 +7,7 @@ ghost use Rattle.std.specs.List.{flat_map};
 
 use crate::packing::{in_bytes, pack};
 use files::{judge, make_from};
-
-/// The most units that a file lists.
-const MOST_UNITS: usize = 16;
+use tables::MOST_UNITS;
 
 /// Judges the bytes of a file: 0, or the packed refusal.
 pub fn tovleng_judge(file: &[u8]) -> u64

@@ -6,6 +6,7 @@ ghost use Rattle.files.specs.Fields.{Bytes};
 ghost use Rattle.files.specs.Layout.{Kept, SizeFits, WellFormed, fields, letters};
 
 use crate::reading::{base, other, others, units, version};
+use tables::{LARGEST_BASE, MOST_UNITS};
 
 /// The letters at the front of a file.
 pub(crate) const LETTERS: &[u8] = b"RTB";
@@ -36,8 +37,8 @@ fn check_head(file: &[u8]) -> Result<(), usize>
 {
     check_field(file, 0, 3, lettered(file))?;
     check_field(file, 3, 5, version(file) == VERSION)?;
-    check_field(file, 5, 6, (1..=16).contains(&units(file)))?;
-    check_field(file, 6, 8, (1..=4096).contains(&base(file)))
+    check_field(file, 5, 6, (1..=MOST_UNITS).contains(&units(file)))?;
+    check_field(file, 6, 8, (1..=LARGEST_BASE).contains(&base(file)))
 }
 
 /// Whether the size of the other unit at a place keeps its rule.
