@@ -1,7 +1,7 @@
 -- Memory whose front has been written, and then some more of it.
 use Rattle.std.proofs.Common.{◌≡◌, ℕ, ◌+◌, ◌-◌, ◌*◌, ◌<◌, ◌≤◌, List, [], ◌∷◌, ◌++◌, length, get_or, take, drop, Option, sym, refl, ap, ◌∙◌, arith, length-append, length-drop}
 use Rattle.std.specs.List.{flat_map}
-use Rattle.std.proofs.lemmas.List.{append-nil, take_all, take-append-drop, take_at, drop_at, drop-drop, take_more, flat_map_more, length-take-le}
+use Rattle.std.proofs.lemmas.List.{take_all, take_at, drop_at, drop-drop, take_more, flat_map_more, length-take-le}
 use Rattle.tables.specs.Rows.{base_of}
 use Rattle.files.specs.Fields.{be16}
 use Rattle.files.specs.Layout.{letters}
@@ -36,13 +36,6 @@ part_more f k each xs d before now after at i low room was is =
     ∙ ap (λ (ys : List ℕ). ys ++ drop (at + k * i + k) before)
     (flat_map_more f (take at before) (take i xs) (get_or xs i d) ∙ ap (λ (ys : List _). take at before ++ flat_map f ys) (sym (take_more xs i d low)))
     ∙ ap (λ (n : ℕ). take at before ++ flat_map f (take (i + 1) xs) ++ drop n before) end
-
-pub part_none : {X : Type 0} (f : X → List ℕ) (before : List ℕ) (at : ℕ) → before ≡ take at before ++ [] ++ drop (at + 0) before
-part_none f before at =
-    let same : at ≡ at + 0 = omega arith in
-    sym (take-append-drop at before)
-    ∙ ap (λ (xs : List ℕ). xs ++ drop at before) (sym (append-nil (take at before)))
-    ∙ ap (λ (n : ℕ). take at before ++ [] ++ drop n before) same
 
 -- all parts, n of them
 pub part_all : {X : Type 0} (f : X → List ℕ) (k : ℕ) (xs : List X) (before now : List ℕ) (at i n : ℕ)

@@ -2,13 +2,13 @@
 use Rattle.std.proofs.Common.{◌≡◌, ℕ, suc, ◌<◌, ◌≤◌, Bool, Decides, MatchResult, Result, Ok, Err, List, length, sym, ◌∙◌, subst, inl, inr, arith}
 use Rattle.std.proofs.lemmas.Bool.{cases_lt, true≢false}
 use Rattle.files.specs.Faults.{Fault, FieldFault, FieldWhole, broken, cut, field_broken, field_cut}
-use Rattle.files.specs.Layout.{Keeps, Kept, field_end, field_start, fields, file_units}
+use Rattle.files.specs.Layout.{Keeps, Kept, field_end, field_start, fields}
 
 module _ (bytes : List ℕ) where
   pub kept_none : Kept bytes 0
   kept_none field h = absurd (omega arith)
 
-  pub kept_more : (count : ℕ) → Kept bytes count → field_end count ≤ length bytes → Keeps bytes count → Kept bytes (suc count)
+  kept_more : (count : ℕ) → Kept bytes count → field_end count ≤ length bytes → Keeps bytes count → Kept bytes (suc count)
   kept_more count kept ends keeps field h =
       elim (cases_lt field count) [
         | inl low ↦ kept field low
@@ -31,11 +31,3 @@ module _ (bytes : List ℕ) where
       → MatchResult r (λ _. Kept bytes (suc field)) (Fault bytes)
   checked_field field start end keeps (Ok _) low kept from to decides whole = kept_field field end keeps kept to decides whole
   checked_field field start end keeps (Err offset) low kept from to decides fault = fault_field field start end offset keeps low kept from to decides fault
-
-  -- what the first fields say
-  module _ (kept : Kept bytes 4) where
-    pub head_long : 8 ≤ length bytes
-    head_long = (kept 3 (omega arith)).0
-
-    pub head_some : 1 ≤ file_units bytes
-    head_some = (kept 2 (omega arith)).1.0

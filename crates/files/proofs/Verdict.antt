@@ -15,10 +15,10 @@ use Rattle.files.proofs.Firsts.{no_fault, one_fault}
 use Rattle.files.proofs.Formed.{formed_low, others_sized}
 
 module _ (bytes : List ℕ) where
-  pub fault_untrue : (offset : ℕ) → Fault bytes offset → TrueFile bytes → ⊥
+  fault_untrue : (offset : ℕ) → Fault bytes offset → TrueFile bytes → ⊥
   fault_untrue offset fault true_file = no_fault bytes offset fault true_file.formed
 
-  pub rules_true : WellFormed bytes → Rules (file_base bytes) (file_others bytes) (file_entry bytes) → TrueFile bytes
+  rules_true : WellFormed bytes → Rules (file_base bytes) (file_others bytes) (file_entry bytes) → TrueFile bytes
   rules_true formed rules =
       record {
         formed = formed;
@@ -28,7 +28,7 @@ module _ (bytes : List ℕ) where
   pub true_rules : TrueFile bytes → Rules (file_base bytes) (file_others bytes) (file_entry bytes)
   true_rules true_file = complete (file_base bytes) (file_others bytes) (file_entry bytes) (formed_low bytes true_file.formed) true_file.table
 
-  pub false_untrue : (r : ℕ) → FirstFalse (file_base bytes) (file_others bytes) (file_entry bytes) r → TrueFile bytes → ⊥
+  false_untrue : (r : ℕ) → FirstFalse (file_base bytes) (file_others bytes) (file_entry bytes) r → TrueFile bytes → ⊥
   false_untrue r first true_file = first.fails (true_rules true_file r first.below)
 
   -- what the check of the layout answers, and what that of the entries does
