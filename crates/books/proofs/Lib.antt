@@ -1,4 +1,3 @@
-pub mod Begins
 pub mod Lists
 pub mod Inserted
 pub mod Removed
@@ -23,3 +22,4 @@ pub mod Reaches
 pub mod Filled
 pub mod Clears
 pub mod Pointed
+pub mod Tabled

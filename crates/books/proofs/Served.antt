@@ -32,9 +32,6 @@ module _ (order points sizes : List ℕ) (n i : ℕ) (wl : List Candidate) (w : 
 
 -- a candidate that was taken out
 module _ (sizes : List ℕ) (m : ℕ) (strip order points : List ℕ) (n : ℕ) (x : Candidate) (wl : List Candidate) (t : Turning sizes m strip order points n x wl) where
-  pub turn_place : t.out.place < length t.old
-  turn_place = t.out.inside
-
   turn_pos : (get_or t.old t.out.place nobody).position ≡ x.position
   turn_pos = ap (λ (c : Candidate). c.position) (out_x t.old wl x t.out)
 

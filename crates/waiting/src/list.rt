@@ -45,6 +45,7 @@ fn least<T: Queued>(slots: &[T]) -> Option<(usize, T)>
 
 /// Takes the least of the first `n` out, if there is one. The last of them goes to its place, so that the others are the
 /// first `n - 1`.
+// The number goes along, since the prover loses what is written to a part of slots that are lent in a field.
 fn take_least<T: Queued>(slots: &mut [T], n: usize) -> Option<T>
     requires { n ≤ length slots.old }
     ensures { Taken T.before (take n slots.old) (take (n - 1) slots.new) result }

@@ -16,6 +16,7 @@ pub(crate) fn start(pointers: &mut [Pointer], sizes: &[u16])
     ensures sizes { sizes_of pointers.new ≡ sizes.now }
     ensures first { (u : ℕ) → slice_index (places_of pointers.new) u ≡ 0 }
 {
+    // A zip with the sizes would hide from the prover what is written through it.
     for (i, pointer) in pointers.iter_mut().enumerate() {
         *pointer = Pointer {
             size: sizes[i],

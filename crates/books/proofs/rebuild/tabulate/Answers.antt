@@ -8,25 +8,19 @@ use Rattle.books.proofs.Filled.{table_filled}
 use Rattle.books.proofs.Pointed.{no_one}
 use Rattle.books.proofs.rebuild.tabulate.Goals as goal
 
-pub invariant_of-merge : goal.invariant_of-merge
-invariant_of-merge c =
-    let small : Small c.args.others.now = λ i h. omega (arith, c.type_inv.others i) in
-    record {
-      some = c.requires.row.0;
-      few = c.requires.row.1.0;
-      marks = omega (arith, c.fill.ensures.len, c.requires.lent.1);
-      places = omega (arith, c.over-waiting.ensures.size, c.start.auto.pointers, length-take-le (length c.args.others.now) (replicate {A = Pointer} 15 no_one), c.requires.row.1.1);
-      small = subst Small (sym c.start.ensures.sizes) small;
-    }
+pub invariant_of-merge-clause-places : goal.invariant_of-merge-clause-places
+invariant_of-merge-clause-places c =
+    omega (arith, c.over-waiting.ensures.size, c.start.auto.pointers, length-take-le (length c.args.others.now) (replicate {A = Pointer} 15 no_one), c.requires.row.1.1)
 
-pub run-requires : goal.run-requires
-run-requires c =
+pub invariant_of-merge-clause-small : goal.invariant_of-merge-clause-small
+invariant_of-merge-clause-small c =
+    let small : Small c.args.others.now = λ i h. omega (arith, c.type_inv.others i) in
+    subst Small (sym c.start.ensures.sizes) small
+
+pub run-requires-clause-unmarked : goal.run-requires-clause-unmarked
+run-requires-clause-unmarked c =
     let clear : c.fill.new.self ≡ replicate (length c.args.strip.now) 0 = c.fill.ensures.after (λ y e. e) in
-    record {
-      empty = c.over-waiting.ensures.empty;
-      unmarked = λ r. ap (λ (l : List ℕ). get_or l r 0) clear ∙ zeros (length c.args.strip.now) r;
-      fresh = c.start.ensures.first;
-    }
+    λ r. ap (λ (l : List ℕ). get_or l r 0) clear ∙ zeros (length c.args.strip.now) r
 
 pub enter-requires-clause-apart : goal.enter-requires-clause-apart
 enter-requires-clause-apart c =

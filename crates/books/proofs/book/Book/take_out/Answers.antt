@@ -1,17 +1,13 @@
-use Rattle.std.proofs.Common.{◌≡◌, ℕ, ◌<◌, ◌≤◌, List, ◌∷◌, length, None, Ok, vec_items, vec_len, vec_capacity, sym, ap, ◌∙◌, subst, arith}
-use Rattle.std.specs.List.{remove}
-use Rattle.std.proofs.lemmas.List.{get_or_past}
+use Rattle.std.proofs.Common.{◌≡◌, ℕ, ◌≤◌, List, ◌∷◌, length, Ok, vec_items, sym, ap, ◌∙◌, subst, arith}
 use Rattle.tables.specs.Rows.{Table}
-use Rattle.tables.specs.Rules.{Rules}
 use Rattle.tables.specs.Tables.{entry_of}
-use Rattle.tables.proofs.Certificate.{complete}
-use Rattle.tables.proofs.Tested.{start_from, leaves_from, closed_from, stepped_from}
 use Rattle.books.specs.Units.{Sized, Small, Rising, Apart}
 use Rattle.books.proofs.Clears.{cleared_all, left_cleared}
 use Rattle.books.specs.Held.{book_table}
 use Rattle.books.proofs.Lists.{has_place, has_no_place, located}
 use Rattle.books.proofs.Refused.{withdraw_base, withdraw_absent, withdraw_fits}
 use Rattle.books.proofs.Removed.{out_each, out_rising, leave_out_is}
+use Rattle.books.proofs.Tabled.{table_start, table_leaves, table_closed, table_stepped}
 use Rattle.books.proofs.Turned.{turns_refused, turns_accepted}
 use Rattle.books.proofs.book.Book.take_out.Goals as goal
 
@@ -47,49 +43,62 @@ returns-in_default c =
       table = book_table book;
     }
 
-pub invariant_of-self : goal.invariant_of-self
-invariant_of-self c =
+pub invariant_of-self-clause-sized : goal.invariant_of-self-clause-sized
+invariant_of-self-clause-sized c =
+    let xs = vec_items c.args.self.now.others in
+    let lt = (located xs _ c.args.size (Ok c.in-Ok.at) c.as_slice.ensures.value c.in-Ok.ensures).0 in
+    subst Sized (sym c.remove.ensures.items) (out_each xs c.in-Ok.at lt (λ (x : ℕ). 1 ≤ x) c.args.self.now.sized)
+
+pub invariant_of-self-clause-small : goal.invariant_of-self-clause-small
+invariant_of-self-clause-small c =
+    let xs = vec_items c.args.self.now.others in
+    let lt = (located xs _ c.args.size (Ok c.in-Ok.at) c.as_slice.ensures.value c.in-Ok.ensures).0 in
+    subst Small (sym c.remove.ensures.items) (out_each xs c.in-Ok.at lt (λ (x : ℕ). x ≤ 65535) c.args.self.now.small)
+
+pub invariant_of-self-clause-rising : goal.invariant_of-self-clause-rising
+invariant_of-self-clause-rising c =
+    let xs = vec_items c.args.self.now.others in
+    let lt = (located xs _ c.args.size (Ok c.in-Ok.at) c.as_slice.ensures.value c.in-Ok.ensures).0 in
+    subst Rising (sym c.remove.ensures.items) (out_rising xs c.in-Ok.at lt c.args.self.now.rising)
+
+pub invariant_of-self-clause-apart : goal.invariant_of-self-clause-apart
+invariant_of-self-clause-apart c =
     let book = c.args.self.now in
     let xs = vec_items book.others in
-    let at = c.in-Ok.at in
-    let lt : at < length xs = (located xs _ c.args.size (Ok at) c.as_slice.ensures.value c.in-Ok.ensures).0 in
-    let e : vec_items c.remove.new.self ≡ remove xs at = c.remove.ensures.items in
+    let lt = (located xs _ c.args.size (Ok c.in-Ok.at) c.as_slice.ensures.value c.in-Ok.ensures).0 in
+    subst (Apart book.base) (sym c.remove.ensures.items) (out_each xs c.in-Ok.at lt (λ (x : ℕ). x ≡ book.base → ⊥) book.apart)
+
+pub invariant_of-self-clause-start : goal.invariant_of-self-clause-start
+invariant_of-self-clause-start c =
+    let book = c.args.self.now in
     let units = vec_items c.remove.new.self in
-    let nu = vec_items c.rebuild.new.entries in
-    let sized : Sized units = subst Sized (sym e) (out_each xs at lt (λ (x : ℕ). 1 ≤ x) book.sized) in
-    let small : Small units = subst Small (sym e) (out_each xs at lt (λ (x : ℕ). x ≤ 65535) book.small) in
-    let rising : Rising units = subst Rising (sym e) (out_rising xs at lt book.rising) in
-    let apart : Apart book.base units = subst (Apart book.base) (sym e) (out_each xs at lt (λ (x : ℕ). x ≡ book.base → ⊥) book.apart) in
-    let few : vec_len c.remove.new.self ≤ 15 = omega (arith, c.remove.ensures.len, book.few) in
-    let room : 15 ≤ vec_capacity c.remove.new.self = omega (arith, book.room, c.remove.ensures.capacity) in
-    let full : vec_len c.rebuild.new.entries ≡ book.base = c.rebuild.ensures.len ∙ book.full in
-    let space : 4096 ≤ vec_capacity c.rebuild.new.entries = omega (arith, book.space, c.rebuild.ensures.capacity) in
-    let places : 4096 ≤ vec_capacity c.rebuild.new.loads.list = c.rebuild.new.loads.space in
-    let past : (r : ℕ) → book.base ≤ r → entry_of nu r ≡ None =
-    λ r h. get_or_past nu r None (omega (arith, c.rebuild.new.entries.ok.0, full)) in
-    let table : Table (book.base ∷ units) (entry_of nu) = subst (λ (m : ℕ). Table (m ∷ units) (entry_of nu)) c.from-base.ensures c.rebuild.ensures.table in
-    let kept : Rules book.base units (entry_of nu) = complete book.base units (entry_of nu) book.low table in
-    let start = start_from book.base units (entry_of nu) book.low past kept in
-    let leaves = leaves_from book.base units (entry_of nu) book.low past kept in
-    let closed = closed_from book.base units (entry_of nu) book.low past kept in
-    let stepped = stepped_from book.base units (entry_of nu) book.low past kept in
-    record {
-      low = book.low;
-      high = book.high;
-      sized = sized;
-      small = small;
-      rising = rising;
-      apart = apart;
-      few = few;
-      room = room;
-      full = full;
-      space = space;
-      places = places;
-      start = start;
-      leaves = leaves;
-      closed = closed;
-      stepped = stepped;
-    }
+    let entries = vec_items c.rebuild.new.entries in
+    table_start book.base units entries book.low (omega (arith, c.rebuild.new.entries.ok.0, c.rebuild.ensures.len, book.full))
+    (subst (λ (m : ℕ). Table (m ∷ units) (entry_of entries)) c.from-base.ensures c.rebuild.ensures.table)
+
+pub invariant_of-self-clause-leaves : goal.invariant_of-self-clause-leaves
+invariant_of-self-clause-leaves c =
+    let book = c.args.self.now in
+    let units = vec_items c.remove.new.self in
+    let entries = vec_items c.rebuild.new.entries in
+    table_leaves book.base units entries book.low (omega (arith, c.rebuild.new.entries.ok.0, c.rebuild.ensures.len, book.full))
+    (subst (λ (m : ℕ). Table (m ∷ units) (entry_of entries)) c.from-base.ensures c.rebuild.ensures.table)
+
+pub invariant_of-self-clause-closed : goal.invariant_of-self-clause-closed
+invariant_of-self-clause-closed c =
+    let book = c.args.self.now in
+    let units = vec_items c.remove.new.self in
+    let entries = vec_items c.rebuild.new.entries in
+    table_closed book.base units entries book.low (omega (arith, c.rebuild.new.entries.ok.0, c.rebuild.ensures.len, book.full))
+    (subst (λ (m : ℕ). Table (m ∷ units) (entry_of entries)) c.from-base.ensures c.rebuild.ensures.table)
+
+pub invariant_of-self-clause-stepped : goal.invariant_of-self-clause-stepped
+invariant_of-self-clause-stepped c =
+    let book = c.args.self.now in
+    let units = vec_items c.remove.new.self in
+    let entries = vec_items c.rebuild.new.entries in
+    table_stepped book.base units entries book.low (omega (arith, c.rebuild.new.entries.ok.0, c.rebuild.ensures.len, book.full))
+    (subst (λ (m : ℕ). Table (m ∷ units) (entry_of entries)) c.from-base.ensures c.rebuild.ensures.table)
 
 pub returns : goal.returns
 returns c =

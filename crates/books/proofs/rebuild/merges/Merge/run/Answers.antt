@@ -17,9 +17,6 @@ less points points' units room e h s =
     let c : sum points' ≤ units * room = rw e at b in
     omega arith
 
-pub push-requires : goal.push-requires
-push-requires c = let none : length c.clear.new.self.list.items ≡ 0 = ap length c.clear.ensures in omega arith
-
 pub refill-requires : goal.refill-requires
 refill-requires c =
     let is : c.as_slice.result.now ≡ 0 ∷ []
@@ -52,15 +49,6 @@ loop-x-init c =
 
 pub turn-requires : goal.turn-requires
 turn-requires c = record { old = waits c.loop-x.self.waiting; state = c.loop-x.invariant.state; out = c.in-Some.ensures.value }
-
-pub loop-x-preserved : goal.loop-x-preserved
-loop-x-preserved c =
-    let k : Keeps c.args.self.now c.loop-x.self = c.loop-x.invariant.keeps in
-    let t = c.turn.ensures.keeps in
-    record {
-      keeps = record { base = t.base ∙ k.base; sizes = t.sizes ∙ k.sizes };
-      state = c.turn.ensures.state;
-    }
 
 pub loop-x-smaller : goal.loop-x-smaller
 loop-x-smaller c =

@@ -183,26 +183,24 @@ returns c =
 small_kept : (c : Joined-get) → Small (sizes_of c.match-get.pointers)
 small_kept c = subst Small (sym (sizes c)) c.args.self.now.small
 
-pub invariant_of-self : goal.invariant_of-self
-invariant_of-self c =
-    let j = (goal.at.invariant_of-self c).Joined-get in
-    let g = c.args.self.now in
-    record {
-      some = g.some;
-      few = g.few;
-      marks = g.marks ∙ sym (length-set g.strip.now (c.args.x.load % g.base) _);
-      places = omega (arith, g.places, (ready j).1, j.match-get.auto.pointers);
-      small = small_kept j;
-    }
+pub invariant_of-self-clause-places : goal.invariant_of-self-clause-places
+invariant_of-self-clause-places c =
+    let j = (goal.at.invariant_of-self-clause-places c).Joined-get in
+    omega (arith, c.args.self.now.places, (ready j).1, j.match-get.auto.pointers)
 
-pub invariant_of-self-2 : goal.invariant_of-self-2
-invariant_of-self-2 c =
-    let j = (goal.at.invariant_of-self-2 c).Joined-get in
-    let g = c.args.self.now in
-    record {
-      some = g.some;
-      few = g.few;
-      marks = g.marks ∙ sym (length-set g.strip.now (c.args.x.load % g.base) _);
-      places = omega (arith, g.places, (ready j).1, j.match-get.auto.pointers, c.refill.ensures.size);
-      small = small_kept j;
-    }
+pub invariant_of-self-clause-small : goal.invariant_of-self-clause-small
+invariant_of-self-clause-small c = small_kept (goal.at.invariant_of-self-clause-small c).Joined-get
+
+pub invariant_of-self-2-clause-places : goal.invariant_of-self-2-clause-places
+invariant_of-self-2-clause-places c =
+    let j = (goal.at.invariant_of-self-2-clause-places c).Joined-get in
+    omega (arith, c.args.self.now.places, (ready j).1, j.match-get.auto.pointers, c.refill.ensures.size)
+
+pub invariant_of-self-2-clause-small : goal.invariant_of-self-2-clause-small
+invariant_of-self-2-clause-small c = small_kept (goal.at.invariant_of-self-2-clause-small c).Joined-get
+
+pub invariant_of-self-clause-marks : goal.invariant_of-self-clause-marks
+invariant_of-self-clause-marks c = c.args.self.now.marks ∙ sym (length-set c.args.self.now.strip.now (c.args.x.load % c.args.self.now.base) _)
+
+pub invariant_of-self-2-clause-marks : goal.invariant_of-self-2-clause-marks
+invariant_of-self-2-clause-marks c = c.args.self.now.marks ∙ sym (length-set c.args.self.now.strip.now (c.args.x.load % c.args.self.now.base) 1)
