@@ -3,7 +3,7 @@
 ghost use Rattle.std.specs.Prelude.{◌≡◌, ◌+◌, ◌≤◌, ◌++◌, length, take, drop};
 ghost use Rattle.files.specs.Fields.{bytes_at};
 
-/// The bytes at an offset. Where all of them are there, one test is enough.
+/// The bytes at an offset.
 pub(crate) fn read<const N: usize>(file: &[u8], at: usize) -> [u8; N]
     ensures { result ≡ bytes_at file.now at N }
 {
