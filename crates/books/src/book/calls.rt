@@ -81,7 +81,7 @@ impl Book {
         self.take_out(size, &mut strip[..m])
     }
 
-    /// The same over a strip of just a byte for each remainder.
+    /// The same over a strip of just a byte for each remainder, all of which the guard holds.
     fn take_out(&mut self, size: u32, strip: &mut [u8]) -> Result<(), Refusal>
         requires { length strip.old ≡ self.old.base }
         ensures turns { Withdraws self.old size (length strip.old) result self.new }
