@@ -9,7 +9,7 @@ use Rattle.tables.proofs.Present.{entry_cases, same_entry, not_both}
 use Rattle.tables.proofs.Tested.{some_present}
 
 -- nothing is present past 0
-none_past : (n r : ℕ) → entry_of (replicate n None) r ≡ None
+pub none_past : (n r : ℕ) → entry_of (replicate n None) r ≡ None
 none_past n r =
     elim (cases_lt r n) [
       | inl h ↦ get_or-replicate n r None None h

@@ -1,6 +1,6 @@
 use Rattle.std.proofs.Common.{◌≡◌, ℕ, ◌-◌, ◌≤◌, List, ◌∷◌, length, vec_items, vec_len, refl, ap, arith}
 use Rattle.books.specs.Units.{Apart, Rising, Sized, Small}
-use Rattle.books.proofs.Begins.{begun_start, begun_absent, begun_leaves, begun_closed, begun_stepped, begun_full}
+use Rattle.books.proofs.Begins.{begun_start, begun_absent, begun_closed, begun_stepped, begun_full}
 use Rattle.books.proofs.Refused.{open_fits}
 use Rattle.books.proofs.Turned.{opens_accepted}
 use Rattle.books.proofs.book.Book.open.Goals as goal
@@ -9,19 +9,18 @@ pub invariant_of-result : goal.invariant_of-result
 invariant_of-result c =
     let base = c.args.base in
     let others = vec_items c.in_ok-others.others in
-    let entries = vec_items c.begin.new.entries in
+    let entries = vec_items c.in_ok-stored.stored.entries in
     let made = c.in_ok-others.ensures in
     let no : length others ≡ 0 = ap (λ (xs : List ℕ). length xs) made.items in
-    let is = c.begin.ensures.items in
+    let is = c.in_ok-stored.ensures in
     let sized : Sized others = λ i h. absurd (omega (arith, no)) in
     let small : Small others = λ i h. absurd (omega (arith, no)) in
     let rising : Rising others = λ i j h l. absurd (omega (arith, no)) in
     let apart : Apart base others = λ i h e. absurd (omega (arith, no)) in
     let few : vec_len c.in_ok-others.others ≤ 15 = omega (arith, made.len) in
-    let full : vec_len c.begin.new.entries ≡ base =
-    omega (arith, c.begin.new.entries.ok.0, begun_full base (base - 1) entries is c.in_ok-check_range.ensures.0 refl) in
+    let full : vec_len c.in_ok-stored.stored.entries ≡ base =
+    omega (arith, c.in_ok-stored.stored.entries.ok.0, begun_full base (base - 1) entries is c.in_ok-check_range.ensures.0 refl) in
     let start = begun_start base (base - 1) entries is in
-    let leaves = begun_leaves base (base - 1) entries is in
     let closed = begun_closed base (base - 1) entries is others made.items in
     let stepped = begun_stepped base (base - 1) entries is others in
     record {
@@ -34,10 +33,8 @@ invariant_of-result c =
       few = few;
       room = made.capacity;
       full = full;
-      space = c.begin.ensures.space;
       places = c.in_ok-loads.ensures.capacity;
       start = start;
-      leaves = leaves;
       closed = closed;
       stepped = stepped;
     }
@@ -45,8 +42,8 @@ invariant_of-result c =
 pub returns : goal.returns
 returns c =
     let base = c.args.base in
-    let entries = vec_items c.begin.new.entries in
-    let is = c.begin.ensures.items in
+    let entries = vec_items c.in_ok-stored.stored.entries in
+    let is = c.in_ok-stored.ensures in
     opens_accepted _ base _ (open_fits base c.in_ok-check_range.ensures.0 c.in_ok-check_range.ensures.1)
     record {
       row = ap (λ (xs : List ℕ). base ∷ xs) c.in_ok-others.ensures.items;

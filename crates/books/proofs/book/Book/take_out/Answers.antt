@@ -5,7 +5,7 @@ use Rattle.tables.specs.Rows.{Table}
 use Rattle.tables.specs.Rules.{Rules}
 use Rattle.tables.specs.Tables.{entry_of}
 use Rattle.tables.proofs.Certificate.{complete}
-use Rattle.tables.proofs.Tested.{start_from, leaves_from, closed_from, stepped_from}
+use Rattle.tables.proofs.Tested.{start_from, closed_from, stepped_from}
 use Rattle.books.specs.Units.{Sized, Small, Rising, Apart}
 use Rattle.books.proofs.Clears.{cleared_all, left_cleared}
 use Rattle.books.specs.Held.{book_table}
@@ -55,22 +55,21 @@ invariant_of-self c =
     let lt : at < length xs = (located xs _ c.args.size (Ok at) c.as_slice.ensures.value c.in-Ok.ensures).0 in
     let e : vec_items c.remove.new.self ≡ remove xs at = c.remove.ensures.items in
     let units = vec_items c.remove.new.self in
-    let nu = vec_items c.rebuild.new.entries in
+    let nu = vec_items c.tabulate.new.stored.entries in
     let sized : Sized units = subst Sized (sym e) (out_each xs at lt (λ (x : ℕ). 1 ≤ x) book.sized) in
     let small : Small units = subst Small (sym e) (out_each xs at lt (λ (x : ℕ). x ≤ 65535) book.small) in
     let rising : Rising units = subst Rising (sym e) (out_rising xs at lt book.rising) in
     let apart : Apart book.base units = subst (Apart book.base) (sym e) (out_each xs at lt (λ (x : ℕ). x ≡ book.base → ⊥) book.apart) in
     let few : vec_len c.remove.new.self ≤ 15 = omega (arith, c.remove.ensures.len, book.few) in
     let room : 15 ≤ vec_capacity c.remove.new.self = omega (arith, book.room, c.remove.ensures.capacity) in
-    let full : vec_len c.rebuild.new.entries ≡ book.base = c.rebuild.ensures.len ∙ book.full in
-    let space : 4096 ≤ vec_capacity c.rebuild.new.entries = omega (arith, book.space, c.rebuild.ensures.capacity) in
-    let places : 4096 ≤ vec_capacity c.rebuild.new.loads = omega (arith, c.rebuild.ensures.places, book.places) in
+    let full : vec_len c.tabulate.new.stored.entries ≡ book.base = c.tabulate.ensures.len ∙ book.full in
+    let places : 4096 ≤ vec_capacity c.tabulate.new.loads = omega (arith, c.tabulate.ensures.places, book.places) in
     let past : (r : ℕ) → book.base ≤ r → entry_of nu r ≡ None =
-    λ r h. get_or_past nu r None (omega (arith, c.rebuild.new.entries.ok.0, full)) in
-    let table : Table (book.base ∷ units) (entry_of nu) = subst (λ (m : ℕ). Table (m ∷ units) (entry_of nu)) c.from-base.ensures c.rebuild.ensures.table in
+    λ r h. get_or_past nu r None (omega (arith, c.tabulate.new.stored.entries.ok.0, full)) in
+    let table : Table (book.base ∷ units) (entry_of nu) =
+    subst (λ (row : List ℕ). Table row (entry_of nu)) (ap (λ (m : ℕ). m ∷ c.as_slice-2.result.now) book.full ∙ ap (λ (zs : List ℕ). book.base ∷ zs) c.as_slice-2.ensures.value) c.tabulate.ensures.table in
     let kept : Rules book.base units (entry_of nu) = complete book.base units (entry_of nu) book.low table in
     let start = start_from book.base units (entry_of nu) book.low past kept in
-    let leaves = leaves_from book.base units (entry_of nu) book.low past kept in
     let closed = closed_from book.base units (entry_of nu) book.low past kept in
     let stepped = stepped_from book.base units (entry_of nu) book.low past kept in
     record {
@@ -83,10 +82,8 @@ invariant_of-self c =
       few = few;
       room = room;
       full = full;
-      space = space;
       places = places;
       start = start;
-      leaves = leaves;
       closed = closed;
       stepped = stepped;
     }
@@ -106,6 +103,8 @@ returns c =
       strip =
           left_cleared book.base c.args.strip.now c.drop-marks-2.new.self.0 _
           (λ q. let z : ◌≡◌ {A = ℕ} 0 1 = cc in omega arith)
-          (cleared_all book.base _ c.args.strip.now c.drop-marks-2.new.self.0 c.requires (c.rebuild.auto.strip ∙ c.requires) c.drop-marks-2.ensures);
-      table = subst (λ (m : ℕ). Table (m ∷ vec_items c.remove.new.self) (entry_of (vec_items c.rebuild.new.entries))) c.from-base.ensures c.rebuild.ensures.table;
+          (cleared_all book.base _ c.args.strip.now c.drop-marks-2.new.self.0 c.requires (c.tabulate.auto.strip ∙ c.requires) c.drop-marks-2.ensures);
+      table =
+          subst (λ (row : List ℕ). Table row (entry_of (vec_items c.tabulate.new.stored.entries)))
+          (ap (λ (m : ℕ). m ∷ c.as_slice-2.result.now) book.full ∙ ap (λ (zs : List ℕ). book.base ∷ zs) c.as_slice-2.ensures.value) c.tabulate.ensures.table;
     }
