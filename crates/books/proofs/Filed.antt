@@ -1,16 +1,18 @@
 -- What a file lists, copied place by place, and why a book of it keeps its invariant.
-use Rattle.std.proofs.Common.{◌≡◌, ℕ, zero, suc, ◌+◌, ◌<◌, ◌≤◌, ltb, List, [], ◌∷◌, ◌++◌, length, take, drop, Some, None, Option, sym, refl, ap, ◌∙◌, inl, inr, arith}
+use Rattle.std.proofs.Common.{◌≡◌, ℕ, zero, suc, ◌+◌, ◌<◌, ◌≤◌, ltb, List, [], ◌∷◌, ◌++◌, length, take, drop, set, replicate, Some, None, Option, sym, refl, ap, ◌∙◌, inl, inr, arith}
 use Rattle.files.specs.Fields.{be16}
 use Rattle.files.specs.Judged.{TrueFile}
 use Rattle.files.specs.Layout.{file_base, file_entry, file_others, file_row, file_units}
 use Rattle.files.specs.Written.{entries_from, entry_bytes, head_bytes, written}
-use Rattle.std.proofs.lemmas.Bool.{cases_lt, cond-false, le-ltb}
+use Rattle.std.proofs.lemmas.Bool.{cases_lt, cases_eq, cond-false, le-ltb}
+use Rattle.std.proofs.lemmas.List.{get_or-set_same, get_or-set_other, get_or-replicate, get_or_past, length-replicate}
 use Rattle.std.specs.List.{slice_get, flat_map}
 use Rattle.tables.specs.Rows.{Row, Table, base_of}
 use Rattle.tables.specs.Rules.{Rules}
 use Rattle.tables.specs.Tables.{entry_of}
 use Rattle.tables.specs.Tests.{AllClosed, AllStepped, Leaves}
 use Rattle.tables.proofs.Certificate.{complete}
+use Rattle.tables.proofs.Present.{not_both}
 use Rattle.tables.proofs.Tested.{start_from, leaves_from, closed_from, stepped_from}
 
 -- one element more
@@ -20,34 +22,57 @@ take_nth (y ∷ xs) zero x p = ap (λ (v : ℕ). v ∷ []) (let e : y ≡ x = cc
 take_nth (y ∷ xs) (suc k) x p =
     ap (λ (n : ℕ). take n (y ∷ xs)) (let e : suc k + 1 ≡ suc (k + 1) = omega arith in e) ∙ ap (λ (zs : List ℕ). y ∷ zs) (take_nth xs k x p)
 
+-- entries that are all absent
+none_past : (n r : ℕ) → entry_of (replicate n None) r ≡ None
+none_past n r =
+    elim (cases_lt r n) [
+      | inl h ↦ get_or-replicate n r None None h
+      | inr h ↦ get_or_past (replicate n None) r None (omega (arith, length-replicate {A = Option ℕ} n None))
+    ]
+
+-- absent entries alone, in place of all others
+pub emptied : (n k : ℕ) (xs ys : List (Option ℕ)) → xs ≡ [] → ys ≡ take n xs ++ replicate k None → (r : ℕ) → entry_of ys r ≡ None
+emptied n k xs ys none is r =
+    ap (λ (zs : List (Option ℕ)). entry_of zs r)
+    (is ∙ ap (λ (zs : List (Option ℕ)). take n zs ++ replicate k None) none ∙ ap (λ (zs : List (Option ℕ)). zs ++ replicate k None) (nothing n))
+    ∙ none_past k r
+  where
+    nothing : (n : ℕ) → ◌≡◌ {A = List (Option ℕ)} (take n []) []
+    nothing zero = refl
+    nothing (suc n) = refl
+
+-- The entries below k are copied, and the others are absent.
+pub record Copied (entry : ℕ → Option ℕ) (k : ℕ) (entries : List (Option ℕ)) : Type 0 where
+  pub below : (r : ℕ) → r < k → entry_of entries r ≡ entry r
+  pub beyond : (r : ℕ) → k ≤ r → entry_of entries r ≡ None
+
 module _ (entry : ℕ → Option ℕ) where
-  pub entries_push : (r n : ℕ) → entries_from entry r (n + 1) ≡ entries_from entry r n ++ entry (r + n) ∷ []
-  entries_push r zero = ap (λ (k : ℕ). entry k ∷ []) (let e : r ≡ r + 0 = omega arith in e)
-  entries_push r (suc n) =
-      ap (entries_from entry r) (let e : suc n + 1 ≡ suc (n + 1) = omega arith in e)
-      ∙ ap (λ (zs : List (Option ℕ)). entry r ∷ zs) (entries_push (suc r) n)
-      ∙ ap (λ (k : ℕ). entry r ∷ (entries_from entry (suc r) n ++ entry k ∷ [])) (let e : suc r + n ≡ r + suc n = omega arith in e)
+  pub copied_none : (entries : List (Option ℕ)) → ((r : ℕ) → entry_of entries r ≡ None) → Copied entry 0 entries
+  copied_none entries absent = record { below = λ r h. absurd (omega arith); beyond = λ r h. absent r }
 
-  pub entries_length : (r n : ℕ) → length (entries_from entry r n) ≡ n
-  entries_length r zero = refl
-  entries_length r (suc n) = ap suc (entries_length (suc r) n)
+  pub copied_more : (k : ℕ) (read : Option ℕ) (entries : List (Option ℕ)) → k < length entries → read ≡ entry k → Copied entry k entries → Copied entry (k + 1) (set entries k read)
+  copied_more k read entries inside is old =
+      record {
+        below = λ r h. elim (cases_eq r k) [
+          | inl e ↦ ap (entry_of (set entries k read)) e ∙ get_or-set_same entries k read None inside ∙ is ∙ ap entry (sym e)
+          | inr e ↦ get_or-set_other entries k r read None e ∙ old.below r (omega arith)
+        ];
+        beyond = λ r h. get_or-set_other entries k r read None (λ e. omega arith) ∙ old.beyond r (omega arith);
+      }
 
-  entries_in : (r n i : ℕ) → i < n → entry_of (entries_from entry r n) i ≡ entry (r + i)
-  entries_in r zero i h = absurd (omega arith)
-  entries_in r (suc n) zero h = ap entry (let e : r ≡ r + 0 = omega arith in e)
-  entries_in r (suc n) (suc i) h = entries_in (suc r) n i (omega arith) ∙ ap entry (let e : suc r + i ≡ r + suc i = omega arith in e)
+  pub copied_leaves : (m k : ℕ) (entries : List (Option ℕ)) → Leaves m entry → Copied entry k entries → Leaves m (entry_of entries)
+  copied_leaves m k entries leaves w r e p =
+      elim (cases_lt r k) [
+        | inl low ↦ leaves r e (sym (w.below r low) ∙ p)
+        | inr high ↦ absurd (not_both (entry_of entries r) e p (w.beyond r high))
+      ]
 
-  entries_out : (r n i : ℕ) → n ≤ i → entry_of (entries_from entry r n) i ≡ None
-  entries_out r zero i h = refl
-  entries_out r (suc n) zero h = absurd (omega arith)
-  entries_out r (suc n) (suc i) h = entries_out (suc r) n i (omega arith)
-
-  -- the entries below m, where there are none from m on
-  pub entries_are : (m : ℕ) → ((r : ℕ) → m ≤ r → entry r ≡ None) → (r : ℕ) → entry_of (entries_from entry 0 m) r ≡ entry r
-  entries_are m past r =
-      elim (cases_lt r m) [
-        | inl low ↦ entries_in 0 m r low ∙ ap entry (let e : 0 + r ≡ r = omega arith in e)
-        | inr high ↦ entries_out 0 m r high ∙ sym (past r high)
+  -- all are copied, where there are none from m on
+  pub copied_all : (m k : ℕ) (entries : List (Option ℕ)) → m ≤ k → ((r : ℕ) → m ≤ r → entry r ≡ None) → Copied entry k entries → (r : ℕ) → entry_of entries r ≡ entry r
+  copied_all m k entries h past w r =
+      elim (cases_lt r k) [
+        | inl low ↦ w.below r low
+        | inr high ↦ w.beyond r high ∙ sym (past r (omega arith))
       ]
 
 entries_same : (f g : ℕ → Option ℕ) → ((r : ℕ) → f r ≡ g r) → (r n : ℕ) → entries_from f r n ≡ entries_from g r n
@@ -78,34 +103,30 @@ file_past bytes r h = cond-false (ltb r (file_base bytes)) _ None (le-ltb r (fil
 pub file_few : (bytes : List ℕ) → TrueFile bytes → (1 ≤ file_units bytes) × (file_units bytes ≤ 16)
 file_few bytes true = (true.formed.kept 2 (omega arith)).1
 
--- what a true file lists, held in memory, is what a book holds
-module _ (bytes : List ℕ) (true : TrueFile bytes) (row : Row (file_row bytes)) (entries : List (Option ℕ)) (are : entries ≡ entries_from (file_entry bytes) 0 (file_base bytes)) where
-  pub listed_same : (r : ℕ) → entry_of entries r ≡ file_entry bytes r
-  listed_same r = ap (λ (zs : List (Option ℕ)). entry_of zs r) are ∙ entries_are (file_entry bytes) (file_base bytes) (file_past bytes) r
+-- what a true file lists is what a book holds
+module _ (bytes : List ℕ) (true : TrueFile bytes) (row : Row (file_row bytes)) where
+  pub file_some : 1 ≤ file_base bytes
+  file_some = (row.sizes 0 (omega arith)).0
 
+  pub file_leaves : Leaves (file_base bytes) (file_entry bytes)
+  file_leaves = leaves_from (file_base bytes) (file_others bytes) (file_entry bytes) file_some (file_past bytes)
+      (complete (file_base bytes) (file_others bytes) (file_entry bytes) file_some true.table)
+
+module _ (bytes : List ℕ) (true : TrueFile bytes) (row : Row (file_row bytes)) (entries : List (Option ℕ)) (same : (r : ℕ) → entry_of entries r ≡ file_entry bytes r) where
   pub listed_table : Table (file_row bytes) (entry_of entries)
-  listed_table = table_same (file_row bytes) (entry_of entries) (file_entry bytes) listed_same true.table
-
-  pub listed_full : length entries ≡ file_base bytes
-  listed_full = ap (λ (zs : List (Option ℕ)). length zs) are ∙ entries_length (file_entry bytes) 0 (file_base bytes)
-
-  low : 1 ≤ file_base bytes
-  low = (row.sizes 0 (omega arith)).0
+  listed_table = table_same (file_row bytes) (entry_of entries) (file_entry bytes) same true.table
 
   past : (r : ℕ) → file_base bytes ≤ r → entry_of entries r ≡ None
-  past r h = listed_same r ∙ file_past bytes r h
+  past r h = same r ∙ file_past bytes r h
 
   rules : Rules (file_base bytes) (file_others bytes) (entry_of entries)
-  rules = complete (file_base bytes) (file_others bytes) (entry_of entries) low listed_table
+  rules = complete (file_base bytes) (file_others bytes) (entry_of entries) (file_some bytes true row) listed_table
 
   pub listed_start : entry_of entries 0 ≡ Some 0
-  listed_start = start_from (file_base bytes) (file_others bytes) (entry_of entries) low past rules
-
-  pub listed_leaves : Leaves (file_base bytes) (entry_of entries)
-  listed_leaves = leaves_from (file_base bytes) (file_others bytes) (entry_of entries) low past rules
+  listed_start = start_from (file_base bytes) (file_others bytes) (entry_of entries) (file_some bytes true row) past rules
 
   pub listed_closed : AllClosed (file_base bytes) (file_others bytes) (entry_of entries)
-  listed_closed = closed_from (file_base bytes) (file_others bytes) (entry_of entries) low past rules
+  listed_closed = closed_from (file_base bytes) (file_others bytes) (entry_of entries) (file_some bytes true row) past rules
 
   pub listed_stepped : AllStepped (file_base bytes) (file_others bytes) (entry_of entries)
-  listed_stepped = stepped_from (file_base bytes) (file_others bytes) (entry_of entries) low past rules
+  listed_stepped = stepped_from (file_base bytes) (file_others bytes) (entry_of entries) (file_some bytes true row) past rules

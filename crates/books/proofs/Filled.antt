@@ -5,6 +5,7 @@ use Rattle.std.proofs.lemmas.Bool.{cases_lt, cases_eq}
 use Rattle.books.specs.Leasts.{Leasts, Entered}
 use Rattle.tables.specs.Rows.{Makes, Table}
 use Rattle.tables.specs.Tables.{entry_of}
+use Rattle.tables.specs.Tests.{Leaves}
 use Rattle.tables.proofs.Present.{same_entry, not_both}
 
 pub entered_none : (m : ℕ) (order : List ℕ) (entries : List (Option ℕ)) → ((r : ℕ) → r < length entries → entry_of entries r ≡ None) → Entered m order 0 entries
@@ -35,6 +36,9 @@ module _ (m : ℕ) (order : List ℕ) (n k : ℕ) (entries : List (Option ℕ)) 
         (λ (q : r ≡ get_or order k 0 % m → ⊥). let o = old.only r e (sym (elsewhere r q) ∙ p) in (o.0, omega (arith, o.1), o.2, o.3))
         (cases_eq r (get_or order k 0 % m));
   }
+
+pub entered_leaves : (m n : ℕ) (order : List ℕ) (entries : List (Option ℕ)) → Entered m order n entries → Leaves m (entry_of entries)
+entered_leaves m n order entries entered r e p = (entered.only r e p).3
 
 -- the loads of a merge, each at its remainder, are the true table
 pub table_filled : (m : ℕ) (sizes order : List ℕ) (n : ℕ) (entries : List (Option ℕ))

@@ -172,12 +172,13 @@ module _ (m g d low step : ℕ) (old : ℕ → Option ℕ) (cur : List (Option �
             | off q v ↦ record { least = a.least; present = v ∙ a.present; within = a.within }
           ]
 
-  -- the step that the code takes
-  pub walk_step : Walk m g d low (step + 1) old
-      (set cur ((n + g) % m) (Some (lesser_load (n + g) (entry_of cur ((n + g) % m))))) (lesser_load (n + g) (entry_of cur ((n + g) % m)))
-  walk_step =
+  -- the step that the code takes: what it reads where it comes, and the lesser load that it writes there
+  pub walk_step : (t n' : ℕ) (read : Option ℕ) → t ≡ (n + g) % m → read ≡ entry_of cur t → n' ≡ lesser_load (n + g) read
+      → Walk m g d low (step + 1) old (set cur t (Some n')) n'
+  walk_step t n' read to is lesser =
       let v : Option ℕ = entry_of cur ((n + g) % m) in
-      walk_more (lesser_load (n + g) v) (lower_than_load (n + g) v) (lower_one (n + g) v) (λ e p. lower_than_entry (n + g) e v p)
+      rw (lesser, is, to)
+      (walk_more (lesser_load (n + g) v) (lower_than_load (n + g) v) (lower_one (n + g) v) (λ e p. lower_than_entry (n + g) e v p))
 
   -- after a whole round
   pub walk_round : step + 1 ≡ m / d → old (low % m) ≡ Some low → Round m g d (low % d) old (entry_of cur)

@@ -9,4 +9,4 @@ row_of book = book.base ∷ vec_items book.others
 
 -- The entry that a book stores at each remainder.
 abbrev pub table_of : Book → ℕ → Option ℕ
-table_of book = entry_of (vec_items book.entries)
+table_of book = entry_of (vec_items book.stored.entries)

@@ -7,13 +7,13 @@ use Rattle.tables.proofs.Tested.{table_from}
 use Rattle.books.specs.declared.book.Book.{Book}
 use Rattle.books.specs.Books.{row_of, table_of}
 use Rattle.books.specs.Rings.{Room}
-use Rattle.books.specs.Lawful.{book_past, book_ceiling}
+use Rattle.books.specs.Lawful.{book_leaves, book_past, book_ceiling}
 
 module _ (book : Book) where
   -- the entries of a book are the true table of its row
   pub book_table : Table (row_of book) (table_of book)
   book_table =
-      table_from book.base (vec_items book.others) (table_of book) book.low book.start book.leaves book.closed book.stepped
+      table_from book.base (vec_items book.others) (table_of book) book.low book.start (book_leaves book) book.closed book.stepped
       book.sized (book_past book)
 
   -- so every unit that may be admitted has room

@@ -2,7 +2,7 @@
 
 ghost use Rattle.std.specs.Prelude.{◌≡◌, ◌≤◌, Some, vec_len, vec_capacity};
 ghost use Rattle.tables.specs.Tables.{entry_of};
-ghost use Rattle.tables.specs.Tests.{AllClosed, AllStepped, Leaves};
+ghost use Rattle.tables.specs.Tests.{AllClosed, AllStepped};
 ghost use Rattle.books.specs.Units.{Apart, Rising, Sized, Small};
 
 mod answers;
@@ -12,6 +12,7 @@ mod showing;
 mod source;
 
 use crate::rebuild::Loads;
+use crate::stored::Stored;
 
 /// How many units may stand beside the base.
 pub(crate) const MOST_OTHERS: usize = 15;
@@ -26,7 +27,7 @@ pub(crate) const MOST_OTHERS: usize = 15;
 pub struct Book {
     base: u16,
     others: Vec<u16>,
-    entries: Vec<Option<u32>>,
+    stored: Stored,
     loads: Loads,
     ghost low: { 1 ≤ base },
     ghost high: { base ≤ 4096 },
@@ -36,11 +37,8 @@ pub struct Book {
     ghost apart: { Apart base others.items },
     ghost few: { vec_len others ≤ 15 },
     ghost room: { 15 ≤ vec_capacity others },
-    ghost full: { vec_len entries ≡ base },
-    ghost space: { 4096 ≤ vec_capacity entries },
-    ghost places: { 4096 ≤ vec_capacity loads.list },
-    ghost start: { entry_of entries.items 0 ≡ Some 0 },
-    ghost leaves: { Leaves base (entry_of entries.items) },
-    ghost closed: { AllClosed base others.items (entry_of entries.items) },
-    ghost stepped: { AllStepped base others.items (entry_of entries.items) },
+    ghost full: { vec_len stored.entries ≡ base },
+    ghost start: { entry_of stored.entries.items 0 ≡ Some 0 },
+    ghost closed: { AllClosed base others.items (entry_of stored.entries.items) },
+    ghost stepped: { AllStepped base others.items (entry_of stored.entries.items) },
 }

@@ -5,6 +5,7 @@ mod book;
 mod rebuild;
 mod rings;
 mod sizes;
+mod stored;
 mod surveys;
 
 pub use book::Book;

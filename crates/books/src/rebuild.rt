@@ -17,8 +17,8 @@ mod merges;
 mod pointers;
 
 use crate::book::MOST_OTHERS;
+use crate::stored::Stored;
 use candidates::Candidate;
-use entries::enter;
 pub(crate) use loads::Loads;
 pub(crate) use marks::Marks;
 use merges::Merge;
@@ -27,17 +27,13 @@ use waiting::Waiting;
 
 /// Writes the true table of a row, by way of a strip of a byte for each remainder, whatever it holds, and of a list with
 /// places for the loads.
-fn tabulate(
-    base: u32,
-    others: &[u16],
-    entries: &mut [Option<u32>],
-    strip: &mut [u8],
-    loads: &mut Loads,
-)
-    requires row { (1 ≤ base) × ((base ≤ 4096) × (length others.now ≤ 15)) }
-    requires lent { (length entries.old ≡ base) × (length strip.old ≡ base) }
-    ensures { Table (base ∷ others.now) (entry_of entries.new) }
+pub(crate) fn tabulate(others: &[u16], stored: &mut Stored, strip: &mut [u8], loads: &mut Loads)
+    requires few { length others.now ≤ 15 }
+    requires lent { length strip.old ≡ vec_len stored.old.entries }
+    ensures table { Table (vec_len stored.old.entries ∷ others.now) (entry_of stored.new.entries.items) }
+    ensures len { vec_len stored.new.entries ≡ vec_len stored.old.entries }
 {
+    let base = stored.base();
     let mut pointers = [Pointer { size: 0, at: 0 }; MOST_OTHERS];
     let pointers = &mut pointers[..others.len()];
     start(pointers, others);
@@ -55,28 +51,5 @@ fn tabulate(
         waiting,
     };
     merge.run();
-    enter(base, merge.loads.as_slice(), entries);
-}
-
-/// The same over a row and a table that are held in vectors, whose lengths and capacities stay.
-pub(crate) fn rebuild(
-    base: u32,
-    others: &Vec<u16>,
-    entries: &mut Vec<Option<u32>>,
-    strip: &mut [u8],
-    loads: &mut Loads,
-)
-    requires row { (1 ≤ base) × ((base ≤ 4096) × (vec_len others.now ≤ 15)) }
-    requires lent { (vec_len entries.old ≡ base) × (length strip.old ≡ base) }
-    ensures table { Table (base ∷ others.now.items) (entry_of entries.new.items) }
-    ensures len { vec_len entries.new ≡ vec_len entries.old }
-    ensures capacity { vec_capacity entries.new ≡ vec_capacity entries.old }
-{
-    tabulate(
-        base,
-        others.as_slice(),
-        entries.as_mut_slice(),
-        strip,
-        loads,
-    );
+    stored.enter(merge.loads.as_slice());
 }

@@ -14,10 +14,11 @@
 //! A ring without a present entry stays absent: the unit leads from a remainder to one of the same ring only, so there is
 //! no load that it could be added to.
 
-ghost use Rattle.std.specs.Prelude.{◌≡◌, ◌%◌, ◌<◌, ◌≤◌, length, Some, vec_len, vec_capacity};
-ghost use Rattle.books.specs.Rings.{Common, Extended, Lowest, RingRoom, Room, RoomFor, Round, lesser_entry, lesser_load};
-ghost use Rattle.tables.specs.Tests.{Leaves};
+ghost use Rattle.std.specs.Prelude.{◌≡◌, ◌%◌, ◌<◌, ◌≤◌, Some, vec_len};
+ghost use Rattle.books.specs.Rings.{Common, Extended, Lowest, Room, RoomFor, Round, lesser_entry, lesser_load};
 ghost use Rattle.tables.specs.Tables.{entry_of};
+
+use crate::stored::Stored;
 
 /// The greatest common divisor of a base and a unit, by Euclid's algorithm.
 fn common_divisor(base: u32, unit: u32) -> u32
@@ -45,82 +46,54 @@ fn lower_entry(low: Option<u32>, least: Option<u32>) -> Option<u32>
     low.map_or(least, |load| Some(lower_load(load, least)))
 }
 
-/// The lowest present entry of a ring, of the remainders start, start + stride, ..; none where all are absent.
-fn lowest_in_ring(entries: &[Option<u32>], start: usize, stride: usize) -> Option<u32>
-    requires some { start < stride }
-    requires few { (stride ≤ length entries.now) × (length entries.now ≤ 4096) }
-    requires leaves { Leaves (length entries.now) (entry_of entries.now) }
-    requires whole { length entries.now % stride ≡ 0 }
-    ensures { Lowest (length entries.now) stride start (entry_of entries.now) result }
-{
-    let mut low = None;
-    for turn in entries.chunks_exact(stride) {
-        low = lower_entry(low, turn[start]);
+impl Stored {
+    /// The lowest present entry of a ring, of the remainders start, start + stride, ..; none where all are absent.
+    fn lowest(&self, start: u32, stride: u32) -> Option<u32>
+        requires some { start < stride }
+        requires whole { vec_len self.now.entries % stride ≡ 0 }
+        ensures { Lowest (vec_len self.now.entries) stride start (entry_of self.now.entries.items) result }
+    {
+        let mut low = None;
+        for turn in self.entries.chunks_exact(stride as usize) {
+            low = lower_entry(low, turn[start as usize]);
+        }
+        low
     }
-    low
-}
 
-/// Walks a ring once round from its lowest present entry.
-///
-/// The walk has as many steps as the ring has remainders, less one: the last would lead back to the lowest entry.
-fn walk_ring(entries: &mut [Option<u32>], unit: u32, low: u32, stride: u32)
-    requires few { (1 ≤ length entries.old) × (length entries.old ≤ 4096) }
-    requires common { Common (length entries.old) unit stride }
-    requires leaves { Leaves (length entries.old) (entry_of entries.old) }
-    requires lowest { Lowest (length entries.old) stride (low % stride) (entry_of entries.old) (Some low) }
-    requires room { RoomFor (length entries.old) unit low }
-    ensures { Round (length entries.old) unit stride (low % stride)
-        (entry_of entries.old) (entry_of entries.new) }
-{
-    let base = entries.len() as u32;
-    let further = base / stride - 1;
-    let mut load = low;
-    for _step in 0..further {
-        load += unit;
-        let t = (load % base) as usize;
-        load = lower_load(load, entries[t]);
-        entries[t] = Some(load);
+    /// Walks a ring once round from its lowest present entry.
+    ///
+    /// The walk has as many steps as the ring has remainders, less one: the last would lead back to the lowest entry.
+    fn walk(&mut self, unit: u32, low: u32, stride: u32)
+        requires common { Common (vec_len self.old.entries) unit stride }
+        requires lowest { Lowest (vec_len self.old.entries) stride (low % stride) (entry_of self.old.entries.items) (Some low) }
+        requires room { RoomFor (vec_len self.old.entries) unit low }
+        ensures round { Round (vec_len self.old.entries) unit stride (low % stride)
+            (entry_of self.old.entries.items) (entry_of self.new.entries.items) }
+        ensures len { vec_len self.new.entries ≡ vec_len self.old.entries }
+    {
+        let base = self.base();
+        let further = base / stride - 1;
+        let mut load = low;
+        for _step in 0..further {
+            load += unit;
+            let remainder = load % base;
+            load = lower_load(load, self.least(remainder));
+            self.entries[remainder as usize] = Some(load);
+        }
     }
-}
 
-/// One more unit in the ring of `start`: nothing is done where the ring has no present entry.
-fn extend_ring(entries: &mut [Option<u32>], unit: u32, start: u32, stride: u32)
-    requires few { (1 ≤ length entries.old) × (length entries.old ≤ 4096) }
-    requires start { start < stride }
-    requires common { Common (length entries.old) unit stride }
-    requires leaves { Leaves (length entries.old) (entry_of entries.old) }
-    requires room { RingRoom (length entries.old) unit stride start (entry_of entries.old) }
-    ensures { Round (length entries.old) unit stride start
-        (entry_of entries.old) (entry_of entries.new) }
-{
-    if let Some(low) = lowest_in_ring(entries, start as usize, stride as usize) {
-        walk_ring(entries, unit, low, stride);
+    /// One more unit, in one ring after another. Nothing is done where a ring has no present entry.
+    pub(crate) fn extend(&mut self, unit: u32)
+        requires { Room (vec_len self.old.entries) unit (entry_of self.old.entries.items) }
+        ensures extended { Extended (vec_len self.old.entries) unit
+            (entry_of self.old.entries.items) (entry_of self.new.entries.items) }
+        ensures len { vec_len self.new.entries ≡ vec_len self.old.entries }
+    {
+        let stride = common_divisor(self.base(), unit);
+        for start in 0..stride {
+            if let Some(low) = self.lowest(start, stride) {
+                self.walk(unit, low, stride);
+            }
+        }
     }
-}
-
-/// One more unit in a table whose base is its length: one ring after another.
-fn extend_slice(entries: &mut [Option<u32>], unit: u32)
-    requires few { (1 ≤ length entries.old) × (length entries.old ≤ 4096) }
-    requires leaves { Leaves (length entries.old) (entry_of entries.old) }
-    requires room { Room (length entries.old) unit (entry_of entries.old) }
-    ensures { Extended (length entries.old) unit
-        (entry_of entries.old) (entry_of entries.new) }
-{
-    let stride = common_divisor(entries.len() as u32, unit);
-    for start in 0..stride {
-        extend_ring(entries, unit, start, stride);
-    }
-}
-
-/// One more unit in the table that a vector holds; its length and its capacity stay.
-pub(crate) fn extend(entries: &mut Vec<Option<u32>>, unit: u32)
-    requires few { (1 ≤ vec_len entries.old) × (vec_len entries.old ≤ 4096) }
-    requires leaves { Leaves (vec_len entries.old) (entry_of entries.old.items) }
-    requires room { Room (vec_len entries.old) unit (entry_of entries.old.items) }
-    ensures extended { Extended (vec_len entries.old) unit
-        (entry_of entries.old.items) (entry_of entries.new.items) }
-    ensures len { vec_len entries.new ≡ vec_len entries.old }
-    ensures capacity { vec_capacity entries.new ≡ vec_capacity entries.old }
-{
-    extend_slice(entries.as_mut_slice(), unit);
 }

@@ -8,12 +8,10 @@ use crate::answers::Answer;
 use books::Book;
 use lines::{Line, read};
 use std::alloc::{AllocError, Global};
-use tables::{Refusal, Showing, make};
+use tables::{LARGEST_BASE, Refusal, Showing, make};
 
-/// How many bytes the strip of a withdrawal has: one for each remainder by the largest base.
-const STRIP: usize = 4_096;
-
-/// What a sheet keeps from line to line: the book that an accepted line opened last, and a strip for withdrawals to work in.
+/// What a sheet keeps from line to line: the book that an accepted line opened last, and a strip for withdrawals to work in,
+/// with a byte for each remainder by the largest base.
 #[derive(Drop)]
 pub(crate) struct Sheet {
     heap: Global,
@@ -41,7 +39,7 @@ impl Sheet {
         Ok(Sheet {
             heap,
             book: None,
-            strip: vec![in heap; 0; STRIP]?,
+            strip: vec![in heap; 0; LARGEST_BASE as usize]?,
         })
     }
 

@@ -1,30 +1,17 @@
 //! The calls that make a book and change its row.
 
-ghost use Rattle.std.specs.Prelude.{◌≡◌, ◌-◌, ◌≤◌, ◌∷◌, length, replicate, Some, None, vec_capacity};
+ghost use Rattle.std.specs.Prelude.{◌≡◌, length};
 ghost use Rattle.tables.specs.Rows.{Table};
 ghost use Rattle.books.specs.Books.{row_of, table_of};
 ghost use Rattle.books.specs.Calls.{Admits, Opens, Withdraws};
 ghost use Rattle.books.specs.Strips.{StripLeft};
 
 use super::{Book, MOST_OTHERS};
-use crate::rebuild::{Loads, Marks, rebuild};
-use crate::rings::extend;
+use crate::rebuild::{Loads, Marks, tabulate};
 use crate::sizes::find;
+use crate::stored::Stored;
 use std::alloc::Global;
 use tables::{LARGEST_BASE, LARGEST_SIZE, Refusal, check_range};
-
-/// Writes the entries of a base alone: 0 at 0, and no other.
-fn begin(entries: &mut Vec<Option<u32>>, base: u16)
-    requires some { 1 ≤ base }
-    requires few { base ≤ 4096 }
-    requires space { 4096 ≤ vec_capacity entries.old }
-    ensures items { entries.new.items ≡ Some 0 ∷ replicate (base - 1) None }
-    ensures space { 4096 ≤ vec_capacity entries.new }
-{
-    entries.clear();
-    entries.push_reserved(Some(0));
-    entries.resize(usize::from(base), None).unwrap();
-}
 
 impl Book {
     /// Opens a book of its base alone, a size of 1 to 4,096, and sets all memory aside that the book can ever need.
@@ -33,14 +20,13 @@ impl Book {
     {
         check_range(base, LARGEST_BASE)?;
         let others = Vec::with_capacity(heap, MOST_OTHERS)?;
-        let mut entries = Vec::with_capacity(heap, LARGEST_BASE as usize)?;
-        let loads = Loads::new(heap)?;
         let base = base as u16;
-        begin(&mut entries, base);
+        let stored = Stored::alone(heap, base)?;
+        let loads = Loads::new(heap)?;
         Ok(Book {
             base,
             others,
-            entries,
+            stored,
             loads,
         })
     }
@@ -61,7 +47,7 @@ impl Book {
         if self.others.len() >= MOST_OTHERS {
             return Err(Refusal::RowFull);
         }
-        extend(&mut self.entries, size);
+        self.stored.extend(size);
         self.others.insert(at, size as u16).unwrap();
         Ok(())
     }
@@ -97,10 +83,9 @@ impl Book {
             return Err(Refusal::NotAdmitted(size));
         };
         let _ = self.others.remove(at);
-        rebuild(
-            base,
-            &self.others,
-            &mut self.entries,
+        tabulate(
+            self.others.as_slice(),
+            &mut self.stored,
             marks.strip,
             &mut self.loads,
         );

@@ -1,14 +1,17 @@
 //! A book and its table file: how a book is saved, and how a file is restored into a book.
 
-ghost use Rattle.std.specs.Prelude.{◌≡◌, ◌≤◌, take, IfOk, vec_len, vec_capacity};
+ghost use Rattle.std.specs.Prelude.{◌≡◌, ℕ, ◌≤◌, take, IfOk, vec_len, vec_capacity};
+ghost use Rattle.files.specs.Judged.{TrueFile};
 ghost use Rattle.files.specs.Layout.{file_base, file_entry, file_others, file_units};
-ghost use Rattle.files.specs.Rounds.{ReadsBack};
-ghost use Rattle.files.specs.Written.{Saves, entries_from};
+ghost use Rattle.files.specs.Rounds.{ReadsBack, WrittenAgain};
+ghost use Rattle.files.specs.Written.{Saves};
 ghost use Rattle.tables.specs.Rows.{Table};
+ghost use Rattle.tables.specs.Tables.{entry_of};
 ghost use Rattle.books.specs.Books.{row_of, table_of};
 ghost use Rattle.books.specs.Calls.{Restores};
 
 use super::Book;
+use crate::stored::Stored;
 use files::judge;
 use tables::{Refusal, Showing, Source};
 
@@ -20,22 +23,28 @@ fn refill_sizes(sizes: &mut Vec<u16>, file: &[u8])
     ensures items { sizes.new.items ≡ file_others file.now }
     ensures room { 15 ≤ vec_capacity sizes.new }
 {
+    // `extend` may fail for want of memory, and its contract does not say that it does not where there is room.
     sizes.clear();
     for position in 1..files::units(file) {
         sizes.push_reserved(files::size(file, position).unwrap());
     }
 }
 
-/// Puts the entries that a file lists in place of others.
-fn refill_entries(entries: &mut Vec<Option<u32>>, file: &[u8])
-    requires few { file_base file.now ≤ 4096 }
-    requires room { 4096 ≤ vec_capacity entries.old }
-    ensures items { entries.new.items ≡ entries_from (file_entry file.now) 0 (file_base file.now) }
-    ensures room { 4096 ≤ vec_capacity entries.new }
-{
-    entries.clear();
-    for remainder in 0..files::base(file) {
-        entries.push_reserved(files::entry(file, remainder));
+impl Stored {
+    /// Puts the entries that a true file lists in place of others.
+    fn refill(&mut self, file: &[u8])
+        requires accepted { TrueFile file.now }
+        requires again { WrittenAgain file.now }
+        ensures entries { (r : ℕ) → entry_of self.new.entries.items r ≡ file_entry file.now r }
+        ensures len { vec_len self.new.entries ≡ file_base file.now }
+    {
+        let base = files::base(file);
+        self.entries.clear();
+        self.entries.resize(base as usize, None).unwrap();
+        // Pushed one by one they would change the base in the loop, by which each entry leaves its remainder.
+        for remainder in 0..base {
+            self.entries[remainder as usize] = files::entry(file, remainder);
+        }
     }
 }
 
@@ -58,7 +67,7 @@ impl Book {
     {
         judge(file)?;
         refill_sizes(&mut self.others, file);
-        refill_entries(&mut self.entries, file);
+        self.stored.refill(file);
         self.base = files::base(file) as u16;
         Ok(())
     }

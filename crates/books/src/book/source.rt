@@ -18,7 +18,7 @@ impl Entries for Book {
     }
 
     fn least(&self, remainder: u32) -> Option<u32> {
-        self.entries.get(remainder as usize).copied().flatten()
+        self.stored.least(remainder)
     }
 }
 

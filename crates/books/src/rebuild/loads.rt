@@ -3,9 +3,7 @@
 ghost use Rattle.std.specs.Prelude.{◌≡◌, ◌<◌, ◌≤◌, [], ◌∷◌, ◌++◌, length, IfOk, vec_capacity};
 
 use std::alloc::{AllocError, Global};
-
-/// How many remainders a base may have.
-const MOST_LOADS: usize = 4_096;
+use tables::LARGEST_BASE;
 
 /// Loads in the order in which they are found. All memory is set aside when the list is made, and stays.
 #[derive(Drop)]
@@ -19,7 +17,7 @@ impl Loads {
     pub(crate) fn new(heap: Global) -> Result<Loads, AllocError>
         ensures { IfOk result (λ loads. loads.list.items ≡ []) }
     {
-        let list = Vec::with_capacity(heap, MOST_LOADS)?;
+        let list = Vec::with_capacity(heap, LARGEST_BASE as usize)?;
         Ok(Loads { list })
     }
 

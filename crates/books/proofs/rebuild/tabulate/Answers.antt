@@ -1,4 +1,4 @@
-use Rattle.std.proofs.Common.{◌≡◌, ℕ, ◌%◌, ◌<◌, List, get_or, length, replicate, sym, ap, ◌∙◌, subst, arith}
+use Rattle.std.proofs.Common.{◌≡◌, ℕ, List, get_or, length, replicate, vec_items, vec_len, sym, ap, ◌∙◌, subst, arith}
 use Rattle.std.proofs.lemmas.List.{length-take-le}
 use Rattle.books.specs.Leasts.{Entered, Leasts}
 use Rattle.books.specs.Units.{Small}
@@ -10,7 +10,7 @@ use Rattle.books.proofs.rebuild.tabulate.Goals as goal
 
 pub invariant_of-merge-clause-places : goal.invariant_of-merge-clause-places
 invariant_of-merge-clause-places c =
-    omega (arith, c.over-waiting.ensures.size, c.start.auto.pointers, length-take-le (length c.args.others.now) (replicate {A = Pointer} 15 no_one), c.requires.row.1.1)
+    omega (arith, c.over-waiting.ensures.size, c.start.auto.pointers, length-take-le (length c.args.others.now) (replicate {A = Pointer} 15 no_one), c.requires.few)
 
 pub invariant_of-merge-clause-small : goal.invariant_of-merge-clause-small
 invariant_of-merge-clause-small c =
@@ -22,14 +22,11 @@ run-requires-clause-unmarked c =
     let clear : c.fill.new.self ≡ replicate (length c.args.strip.now) 0 = c.fill.ensures.after (λ y e. e) in
     λ r. ap (λ (l : List ℕ). get_or l r 0) clear ∙ zeros (length c.args.strip.now) r
 
-pub enter-requires-clause-apart : goal.enter-requires-clause-apart
-enter-requires-clause-apart c =
-    subst (λ (l : List ℕ). (j k : ℕ) → j < length l → k < length l → get_or l j 0 % c.args.base ≡ get_or l k 0 % c.args.base → j ≡ k)
-    (sym c.as_slice.ensures) c.run.ensures.apart
-
-pub returns : goal.returns
-returns c =
+pub returns-clause-table : goal.returns-clause-table
+returns-clause-table c =
+    let m : ℕ = vec_len c.args.stored.now.entries in
     let loads : List ℕ = c.run.new.self.loads.now.list.items in
-    table_filled _ _ loads (length loads) _
-    (subst (λ (ss : List ℕ). Leasts c.args.base ss loads (length loads)) c.start.ensures.sizes c.run.ensures)
-    (subst (λ (l : List ℕ). Entered c.args.base l (length l) c.enter.new.entries) c.as_slice.ensures c.enter.ensures)
+    table_filled m _ loads (length loads) _
+    (subst (λ (n : ℕ). Leasts n c.args.others.now loads (length loads)) c.base-base.ensures
+    (subst (λ (ss : List ℕ). Leasts c.base-base.result ss loads (length loads)) c.start.ensures.sizes c.run.ensures))
+    (subst (λ (l : List ℕ). Entered m l (length l) (vec_items c.enter.new.self.entries)) c.as_slice.ensures c.enter.ensures.entered)

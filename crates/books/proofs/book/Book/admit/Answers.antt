@@ -3,12 +3,11 @@ use Rattle.std.specs.List.{insert}
 use Rattle.std.proofs.lemmas.Bool.{cond-true}
 use Rattle.std.proofs.lemmas.List.Edits.{length-insert}
 use Rattle.std.proofs.lemmas.List.{get_or_past}
-use Rattle.tables.specs.Tests.{Leaves}
 use Rattle.books.specs.Rings.{Extended, Room}
 use Rattle.tables.specs.Rules.{Rules}
 use Rattle.tables.specs.Tables.{entry_of}
-use Rattle.tables.proofs.Tested.{start_from, leaves_from, closed_from, stepped_from}
-use Rattle.books.specs.Lawful.{book_rules}
+use Rattle.tables.proofs.Tested.{start_from, closed_from, stepped_from}
+use Rattle.books.specs.Lawful.{book_leaves, book_rules}
 use Rattle.books.specs.Held.{book_room, book_table}
 use Rattle.books.proofs.Extends.{Joined, extended_rules, inserted_joined}
 use Rattle.books.specs.Units.{Located, Sized, Small, Rising, Apart}
@@ -60,22 +59,17 @@ place c = subst (λ (zs : List ℕ). Located zs c.args.size (Err c.in-Err.at)) c
 pub extend-requires : goal.extend-requires
 extend-requires c =
     let book = c.args.self.now in
-    let e : book.base ≡ vec_len book.entries = sym book.full in
-    record {
-      few = omega (arith, book.low, book.high, book.full);
-      leaves = subst (λ (z : ℕ). Leaves z (entry_of (vec_items book.entries))) e book.leaves;
-      room = subst (λ (z : ℕ). Room z c.args.size (entry_of (vec_items book.entries))) e (book_room book c.args.size c.in_ok-check_range.ensures.1);
-    }
+    subst (λ (z : ℕ). Room z c.args.size (entry_of (vec_items book.stored.entries))) (sym book.full) (book_room book c.args.size c.in_ok-check_range.ensures.1)
 
 -- the new entries keep the rules of the row with the new unit
-kept : (c : goal.After-insert) → Rules c.args.self.now.base (vec_items c.insert.new.self) (entry_of (vec_items c.extend.new.entries))
+kept : (c : goal.After-insert) → Rules c.args.self.now.base (vec_items c.insert.new.self) (entry_of (vec_items c.extend.new.self.entries))
 kept c =
     let book = c.args.self.now in
     let xs = vec_items book.others in
     let l = place c in
-    extended_rules book.base c.args.size xs (vec_items c.insert.new.self) (entry_of (vec_items book.entries)) (entry_of (vec_items c.extend.new.entries)) book.low
-    (subst (λ (z : ℕ). Extended z c.args.size (entry_of (vec_items book.entries)) (entry_of (vec_items c.extend.new.entries))) book.full c.extend.ensures.extended)
-    book.leaves (book_rules book)
+    extended_rules book.base c.args.size xs (vec_items c.insert.new.self) (entry_of (vec_items book.stored.entries)) (entry_of (vec_items c.extend.new.self.entries)) book.low
+    (subst (λ (z : ℕ). Extended z c.args.size (entry_of (vec_items book.stored.entries)) (entry_of (vec_items c.extend.new.self.entries))) book.full c.extend.ensures.extended)
+    (book_leaves book) (book_rules book)
     (subst (Joined c.args.size xs) (sym (is_put c)) (inserted_joined xs c.in-Err.at c.args.size l.0))
 
 pub invariant_of-self : goal.invariant_of-self
@@ -87,7 +81,7 @@ invariant_of-self c =
     let e = is_put c in
     let l = place c in
     let units = vec_items c.insert.new.self in
-    let nu = vec_items c.extend.new.entries in
+    let nu = vec_items c.extend.new.self.entries in
     let sized : Sized units = subst Sized (sym e) (in_each xs at g l.0 (λ (x : ℕ). 1 ≤ x) book.sized c.in_ok-check_range.ensures.0) in
     let small : Small units = subst Small (sym e) (in_each xs at g l.0 (λ (x : ℕ). x ≤ 65535) book.small c.in_ok-check_range.ensures.1) in
     let rising : Rising units = subst Rising (sym e) (in_rising xs at g l.0 book.rising l.1 l.2) in
@@ -95,12 +89,10 @@ invariant_of-self c =
     subst (Apart book.base) (sym e) (in_each xs at g l.0 (λ (x : ℕ). x ≡ book.base → ⊥) book.apart (λ q. c.if-size-from.false (q ∙ sym c.from.ensures))) in
     let few : vec_len c.insert.new.self ≤ 15 = omega (arith, c.insert.new.self.ok.0, ap length e, length-insert xs at g l.0, book.others.ok.0) in
     let room : 15 ≤ vec_capacity c.insert.new.self = omega (arith, book.room, c.insert.ensures.capacity) in
-    let full : vec_len c.extend.new.entries ≡ book.base = c.extend.ensures.len ∙ book.full in
-    let space : 4096 ≤ vec_capacity c.extend.new.entries = omega (arith, book.space, c.extend.ensures.capacity) in
+    let full : vec_len c.extend.new.self.entries ≡ book.base = c.extend.ensures.len ∙ book.full in
     let past : (r : ℕ) → book.base ≤ r → entry_of nu r ≡ None =
-    λ r h. get_or_past nu r None (omega (arith, c.extend.new.entries.ok.0, full)) in
+    λ r h. get_or_past nu r None (omega (arith, c.extend.new.self.entries.ok.0, full)) in
     let start = start_from book.base units (entry_of nu) book.low past (kept c) in
-    let leaves = leaves_from book.base units (entry_of nu) book.low past (kept c) in
     let closed = closed_from book.base units (entry_of nu) book.low past (kept c) in
     let stepped = stepped_from book.base units (entry_of nu) book.low past (kept c) in
     record {
@@ -113,10 +105,7 @@ invariant_of-self c =
       few = few;
       room = room;
       full = full;
-      space = space;
-      places = book.places;
       start = start;
-      leaves = leaves;
       closed = closed;
       stepped = stepped;
     }

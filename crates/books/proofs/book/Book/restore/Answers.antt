@@ -4,9 +4,9 @@ use Rattle.files.specs.Written.{written}
 use Rattle.std.proofs.lemmas.Result.{err_from_is_err_and}
 use Rattle.tables.specs.Rows.{Table}
 use Rattle.tables.specs.Tables.{entry_of}
-use Rattle.tables.specs.Tests.{AllClosed, AllStepped, Leaves}
+use Rattle.tables.specs.Tests.{AllClosed, AllStepped}
 use Rattle.books.specs.Units.{Apart, Rising, Sized, Small}
-use Rattle.books.proofs.Filed.{file_few, listed_closed, listed_full, listed_leaves, listed_same, listed_start, listed_stepped, listed_table, written_same}
+use Rattle.books.proofs.Filed.{file_few, listed_closed, listed_start, listed_stepped, listed_table, written_same}
 use Rattle.books.specs.Held.{book_table}
 use Rattle.books.proofs.book.Book.restore.Goals as goal
 
@@ -20,8 +20,8 @@ refill_sizes-requires c =
     let few = file_few c.args.file.now c.in_ok-judge.ensures.verdict in
     record { some = few.0; few = few.1; room = c.args.self.now.room }
 
-pub refill_entries-requires : goal.refill_entries-requires
-refill_entries-requires c = record { few = c.in_ok-judge.ensures.again.row.base; room = c.args.self.now.space }
+pub refill-requires : goal.refill-requires
+refill-requires c = record { accepted = c.in_ok-judge.ensures.verdict; again = c.in_ok-judge.ensures.again }
 
 pub invariant_of-self : goal.invariant_of-self
 invariant_of-self c =
@@ -31,8 +31,8 @@ invariant_of-self c =
     let is = c.base.ensures in
     let e : vec_items c.refill_sizes.new.sizes ≡ file_others bytes = c.refill_sizes.ensures.items in
     let units = vec_items c.refill_sizes.new.sizes in
-    let entries = vec_items c.refill_entries.new.entries in
-    let are = c.refill_entries.ensures.items in
+    let entries = vec_items c.refill.new.self.entries in
+    let are = c.refill.ensures.entries in
     let low : 1 ≤ c.base.result = omega (arith, is, (row.sizes 0 (omega arith)).0) in
     let high : c.base.result ≤ 4096 = omega (arith, is, row.base) in
     let sized : Sized units = subst Sized (sym e) (λ i h. (row.sizes (suc i) (omega arith)).0) in
@@ -41,8 +41,7 @@ invariant_of-self c =
     let apart : Apart c.base.result units =
     subst (Apart c.base.result) (sym e) (λ i h q. row.apart (suc i) (omega arith) (omega arith) (q ∙ is)) in
     let few : vec_len c.refill_sizes.new.sizes ≤ 15 = omega (arith, c.refill_sizes.new.sizes.ok.0, ap (λ (zs : List ℕ). length zs) e, row.few) in
-    let full : vec_len c.refill_entries.new.entries ≡ c.base.result = omega (arith, c.refill_entries.new.entries.ok.0, listed_full bytes true row entries are, is) in
-    let leaves : Leaves c.base.result (entry_of entries) = subst (λ (m : ℕ). Leaves m (entry_of entries)) (sym is) (listed_leaves bytes true row entries are) in
+    let full : vec_len c.refill.new.self.entries ≡ c.base.result = c.refill.ensures.len ∙ sym is in
     let closed : AllClosed c.base.result units (entry_of entries) =
     subst (λ (m : ℕ). AllClosed m units (entry_of entries)) (sym is) (subst (λ (zs : List ℕ). AllClosed (file_base bytes) zs (entry_of entries)) (sym e) (listed_closed bytes true row entries are)) in
     let stepped : AllStepped c.base.result units (entry_of entries) =
@@ -57,10 +56,7 @@ invariant_of-self c =
       few = few;
       room = c.refill_sizes.ensures.room;
       full = full;
-      space = c.refill_entries.ensures.room;
-      places = c.args.self.now.places;
       start = listed_start bytes true row entries are;
-      leaves = leaves;
       closed = closed;
       stepped = stepped;
     }
@@ -70,18 +66,18 @@ returns c =
     let bytes = c.args.file.now in
     let true = c.in_ok-judge.ensures.verdict in
     let again = c.in_ok-judge.ensures.again in
-    let entries = vec_items c.refill_entries.new.entries in
-    let are = c.refill_entries.ensures.items in
+    let entries = vec_items c.refill.new.self.entries in
+    let are = c.refill.ensures.entries in
     let listed : c.base.result ∷ vec_items c.refill_sizes.new.sizes ≡ file_row bytes =
     ap (λ (m : ℕ). m ∷ vec_items c.refill_sizes.new.sizes) c.base.ensures ∙ ap (λ (zs : List ℕ). file_base bytes ∷ zs) c.refill_sizes.ensures.items in
     record {
       turns = record {
         accepted = true;
         row = listed;
-        entries = listed_same bytes true again.row entries are;
+        entries = are;
         again =
             ap (λ (zs : List ℕ). written zs (entry_of entries)) listed
-            ∙ written_same (file_row bytes) (entry_of entries) (file_entry bytes) (listed_same bytes true again.row entries are)
+            ∙ written_same (file_row bytes) (entry_of entries) (file_entry bytes) are
             ∙ again.again;
       };
       table = subst (λ (zs : List ℕ). Table zs (entry_of entries)) (sym listed) (listed_table bytes true again.row entries are);

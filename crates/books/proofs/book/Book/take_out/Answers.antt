@@ -7,7 +7,7 @@ use Rattle.books.specs.Held.{book_table}
 use Rattle.books.proofs.Lists.{has_place, has_no_place, located}
 use Rattle.books.proofs.Refused.{withdraw_base, withdraw_absent, withdraw_fits}
 use Rattle.books.proofs.Removed.{out_each, out_rising, leave_out_is}
-use Rattle.books.proofs.Tabled.{table_start, table_leaves, table_closed, table_stepped}
+use Rattle.books.proofs.Tabled.{table_start, table_closed, table_stepped}
 use Rattle.books.proofs.Turned.{turns_refused, turns_accepted}
 use Rattle.books.proofs.book.Book.take_out.Goals as goal
 
@@ -72,33 +72,25 @@ pub invariant_of-self-clause-start : goal.invariant_of-self-clause-start
 invariant_of-self-clause-start c =
     let book = c.args.self.now in
     let units = vec_items c.remove.new.self in
-    let entries = vec_items c.rebuild.new.entries in
-    table_start book.base units entries book.low (omega (arith, c.rebuild.new.entries.ok.0, c.rebuild.ensures.len, book.full))
-    (subst (λ (m : ℕ). Table (m ∷ units) (entry_of entries)) c.from-base.ensures c.rebuild.ensures.table)
-
-pub invariant_of-self-clause-leaves : goal.invariant_of-self-clause-leaves
-invariant_of-self-clause-leaves c =
-    let book = c.args.self.now in
-    let units = vec_items c.remove.new.self in
-    let entries = vec_items c.rebuild.new.entries in
-    table_leaves book.base units entries book.low (omega (arith, c.rebuild.new.entries.ok.0, c.rebuild.ensures.len, book.full))
-    (subst (λ (m : ℕ). Table (m ∷ units) (entry_of entries)) c.from-base.ensures c.rebuild.ensures.table)
+    let entries = vec_items c.tabulate.new.stored.entries in
+    table_start book.base units entries book.low (omega (arith, c.tabulate.new.stored.entries.ok.0, c.tabulate.ensures.len, book.full))
+    (subst (λ (row : List ℕ). Table row (entry_of entries)) (ap (λ (m : ℕ). m ∷ c.as_slice-2.result.now) book.full ∙ ap (λ (zs : List ℕ). book.base ∷ zs) c.as_slice-2.ensures.value) c.tabulate.ensures.table)
 
 pub invariant_of-self-clause-closed : goal.invariant_of-self-clause-closed
 invariant_of-self-clause-closed c =
     let book = c.args.self.now in
     let units = vec_items c.remove.new.self in
-    let entries = vec_items c.rebuild.new.entries in
-    table_closed book.base units entries book.low (omega (arith, c.rebuild.new.entries.ok.0, c.rebuild.ensures.len, book.full))
-    (subst (λ (m : ℕ). Table (m ∷ units) (entry_of entries)) c.from-base.ensures c.rebuild.ensures.table)
+    let entries = vec_items c.tabulate.new.stored.entries in
+    table_closed book.base units entries book.low (omega (arith, c.tabulate.new.stored.entries.ok.0, c.tabulate.ensures.len, book.full))
+    (subst (λ (row : List ℕ). Table row (entry_of entries)) (ap (λ (m : ℕ). m ∷ c.as_slice-2.result.now) book.full ∙ ap (λ (zs : List ℕ). book.base ∷ zs) c.as_slice-2.ensures.value) c.tabulate.ensures.table)
 
 pub invariant_of-self-clause-stepped : goal.invariant_of-self-clause-stepped
 invariant_of-self-clause-stepped c =
     let book = c.args.self.now in
     let units = vec_items c.remove.new.self in
-    let entries = vec_items c.rebuild.new.entries in
-    table_stepped book.base units entries book.low (omega (arith, c.rebuild.new.entries.ok.0, c.rebuild.ensures.len, book.full))
-    (subst (λ (m : ℕ). Table (m ∷ units) (entry_of entries)) c.from-base.ensures c.rebuild.ensures.table)
+    let entries = vec_items c.tabulate.new.stored.entries in
+    table_stepped book.base units entries book.low (omega (arith, c.tabulate.new.stored.entries.ok.0, c.tabulate.ensures.len, book.full))
+    (subst (λ (row : List ℕ). Table row (entry_of entries)) (ap (λ (m : ℕ). m ∷ c.as_slice-2.result.now) book.full ∙ ap (λ (zs : List ℕ). book.base ∷ zs) c.as_slice-2.ensures.value) c.tabulate.ensures.table)
 
 pub returns : goal.returns
 returns c =
@@ -115,6 +107,8 @@ returns c =
       strip =
           left_cleared book.base c.args.strip.now c.drop-marks-2.new.self.0 _
           (λ q. let z : ◌≡◌ {A = ℕ} 0 1 = cc in omega arith)
-          (cleared_all book.base _ c.args.strip.now c.drop-marks-2.new.self.0 c.requires (c.rebuild.auto.strip ∙ c.requires) c.drop-marks-2.ensures);
-      table = subst (λ (m : ℕ). Table (m ∷ vec_items c.remove.new.self) (entry_of (vec_items c.rebuild.new.entries))) c.from-base.ensures c.rebuild.ensures.table;
+          (cleared_all book.base _ c.args.strip.now c.drop-marks-2.new.self.0 c.requires (c.tabulate.auto.strip ∙ c.requires) c.drop-marks-2.ensures);
+      table =
+          subst (λ (row : List ℕ). Table row (entry_of (vec_items c.tabulate.new.stored.entries)))
+          (ap (λ (m : ℕ). m ∷ c.as_slice-2.result.now) book.full ∙ ap (λ (zs : List ℕ). book.base ∷ zs) c.as_slice-2.ensures.value) c.tabulate.ensures.table;
     }
