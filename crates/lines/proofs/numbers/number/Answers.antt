@@ -1,11 +1,8 @@
 use Rattle.std.proofs.Common.{◌≡◌, length, subst, arith}
 use Rattle.std.proofs.lemmas.Result.{err_from_is_err_and}
 use Rattle.lines.specs.Numbers.{Numberless}
-use Rattle.lines.proofs.Figures.{read_first, read_none, read_number, read_more, read_over, refused_at, numberless_ended}
+use Rattle.lines.proofs.Figures.{read_none, read_number, read_more, read_over, refused_at, numberless_ended}
 use Rattle.lines.proofs.numbers.number.Goals as goal
-
-pub loop-i-init : goal.loop-i-init
-loop-i-init c = read_first _ _
 
 pub returns-in_err-ok_or : goal.returns-in_err-ok_or
 returns-in_err-ok_or c =
