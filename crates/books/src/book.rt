@@ -20,9 +20,11 @@ pub(crate) const MOST_OTHERS: usize = 15;
 /// A book of unit sizes.
 ///
 /// The ghost fields hold of every book, whatever calls came before: the other units ascend, are in range and are not the
-/// base; there are at most fifteen of them; the memory that the book set aside when it was opened is still there, among it the
-/// places of `loads`, where a rebuild of the table puts the loads that it finds; and its entries keep the rules by which they
-/// are the true table of the row.
+/// base; there are at most fifteen of them, and the memory for so many is set aside; there is an entry for each remainder by
+/// the base; and the entries keep the rules by which they are the true table of the row. The types of the entries and of the
+/// loads that a rebuild finds keep what always holds of those alone, the memory that was set aside for them among it.
+// The others are a sorted list and no set of the library's, which would take memory at each admit. That the table is true is a
+// law of the type; the contracts of the calls that change it say it too, where they are read.
 #[derive(Drop)]
 pub struct Book {
     base: u16,

@@ -21,6 +21,7 @@ ghost use Rattle.tables.specs.Tables.{entry_of};
 use crate::stored::Stored;
 
 /// The greatest common divisor of a base and a unit, by Euclid's algorithm.
+// A pair finds its divisor with an inverse beside it: shared below both crates that would be a public call that asks for its ranges.
 fn common_divisor(base: u32, unit: u32) -> u32
     requires { 1 ≤ base }
     ensures { Common base unit result }

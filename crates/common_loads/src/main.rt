@@ -11,6 +11,7 @@ use std::io;
 use tables::{Entries, Refusal, Source, gaps, largest};
 
 /// The units 5, 8 and 12, with their table written out.
+// The tests have such a source too. It stands here since this program shows how one adds a source of one's own.
 #[derive(Clone, Copy)]
 struct Trio;
 

@@ -50,5 +50,6 @@ fn make_through(file: &[u8], load: u64, numbers: &mut [u32], out: &mut [u8]) -> 
 pub fn tovleng_make(file: &[u8], load: u64, out: &mut [u8]) -> u64
     ensures { MakesBytes file.now load out.old result out.new }
 {
+    // An array and no `Vec`: the calls for C take no memory.
     make_through(file, load, &mut [0; MOST_UNITS], out)
 }

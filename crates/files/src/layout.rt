@@ -55,6 +55,7 @@ fn check_sizes(file: &[u8]) -> Result<(), usize>
     requires { Kept file.now 4 }
     ensures { MatchResult result (λ _. Kept file.now (fields file.now)) (Fault file.now) }
 {
+    // `(0..others(file)).try_for_each(|place| ..)` needs a closure with clauses of its own, and is no plainer.
     for place in 0..others(file) {
         check_field(file, 8 + 2 * place, 10 + 2 * place, size_fits(file, place))?;
     }

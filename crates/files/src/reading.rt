@@ -9,6 +9,7 @@ use crate::fields::read;
 // The bytes are passed as they are: a struct round them would hold nothing else, and the public calls take bytes.
 
 /// The number that stands for an absent entry.
+// The file's format has four bytes for an entry and no other way to leave it out.
 pub(crate) const ABSENT: u32 = 4_294_967_295;
 
 /// The version that a file names.

@@ -11,6 +11,7 @@ pub(crate) struct Solution {
 }
 
 /// The greatest common divisor, since whatever divides both units divides what is left of them.
+// A book finds a divisor of its own for any base and size: shared below both crates this would be a public call that asks for its ranges.
 /// Where Euclid's way takes turns away, this adds what makes them whole bases, so that no number goes below 0.
 pub(crate) fn solve(base: u32, other: u32) -> Solution
     requires { (1 ≤ base) × ((base ≤ 4096) × (1 ≤ other)) }

@@ -80,6 +80,7 @@ impl<A: Source, B: Source> Source for Meet<A, B> {
 }
 
 /// A meet that is refused lets both sources go where `?` hands the reason on.
+// Written out, since contracts say which refusal a `?` makes, and a derived conversion says nothing of it.
 impl<A: Drop, B: Drop> From<Unequal<A, B>> for Refusal {
     ghost from_gives = { λ unequal r. r ≡ unequal.reason };
 

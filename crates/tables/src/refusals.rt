@@ -136,6 +136,8 @@ impl fmt::Display for Refusal {
 
 impl Error for Refusal {}
 
+// The next two are written out, since contracts say which refusal a `?` makes, and a derived conversion says nothing of it.
+
 impl From<AllocError> for Refusal {
     ghost from_gives = { λ _ r. r ≡ NoMemory };
 

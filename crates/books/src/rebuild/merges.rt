@@ -68,6 +68,7 @@ impl Merge<'_> {
             let load = from + u32::from(pointer.size);
             waiting.put(Candidate { load, position }).unwrap();
         }
+        // A mark is a byte and no `bool`, since the strip is bytes that the caller lends.
         let mark = &mut strip[(load % base) as usize];
         if *mark == 1 {
             return;
