@@ -29,7 +29,7 @@ use waiting::Waiting;
 /// places for the loads.
 pub(crate) fn tabulate(others: &[u16], stored: &mut Stored, strip: &mut [u8], loads: &mut Loads)
     requires few { length others.now ≤ 15 }
-    requires lent { length strip.old ≡ vec_len stored.old.entries }
+    requires strip { length strip.old ≡ vec_len stored.old.entries }
     ensures table { Table (vec_len stored.old.entries ∷ others.now) (entry_of stored.new.entries.items) }
     ensures len { vec_len stored.new.entries ≡ vec_len stored.old.entries }
 {

@@ -1,6 +1,6 @@
 //! The entries that a book stores, and the memory that stays set aside for them.
 
-ghost use Rattle.std.specs.Prelude.{◌≡◌, ◌-◌, ◌≤◌, ◌∷◌, replicate, IfOk, Some, None, slice_index_or, vec_len, vec_capacity};
+ghost use Rattle.std.specs.Prelude.{◌≡◌, ◌-◌, ◌≤◌, ◌∷◌, replicate, IfOk, Some, None, vec_len, vec_capacity};
 ghost use Rattle.tables.specs.Tables.{entry_of};
 ghost use Rattle.tables.specs.Tests.{Leaves};
 

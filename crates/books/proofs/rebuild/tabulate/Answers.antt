@@ -1,26 +1,7 @@
-use Rattle.std.proofs.Common.{◌≡◌, ℕ, List, get_or, length, replicate, vec_items, vec_len, sym, ap, ◌∙◌, subst, arith}
-use Rattle.std.proofs.lemmas.List.{length-take-le}
+use Rattle.std.proofs.Common.{ℕ, List, length, vec_items, vec_len, subst}
 use Rattle.books.specs.Leasts.{Entered, Leasts}
-use Rattle.books.specs.Units.{Small}
-use Rattle.books.specs.declared.rebuild.pointers.Pointer.{Pointer}
-use Rattle.books.proofs.Clears.{zeros}
 use Rattle.books.proofs.Filled.{table_filled}
-use Rattle.books.proofs.Pointed.{no_one}
 use Rattle.books.proofs.rebuild.tabulate.Goals as goal
-
-pub invariant_of-merge-clause-places : goal.invariant_of-merge-clause-places
-invariant_of-merge-clause-places c =
-    omega (arith, c.over-waiting.ensures.size, c.start.auto.pointers, length-take-le (length c.args.others.now) (replicate {A = Pointer} 15 no_one), c.requires.few)
-
-pub invariant_of-merge-clause-small : goal.invariant_of-merge-clause-small
-invariant_of-merge-clause-small c =
-    let small : Small c.args.others.now = λ i h. omega (arith, c.type_inv.others i) in
-    subst Small (sym c.start.ensures.sizes) small
-
-pub run-requires-clause-unmarked : goal.run-requires-clause-unmarked
-run-requires-clause-unmarked c =
-    let clear : c.fill.new.self ≡ replicate (length c.args.strip.now) 0 = c.fill.ensures.after (λ y e. e) in
-    λ r. ap (λ (l : List ℕ). get_or l r 0) clear ∙ zeros (length c.args.strip.now) r
 
 pub returns-clause-table : goal.returns-clause-table
 returns-clause-table c =

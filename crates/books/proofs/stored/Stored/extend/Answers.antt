@@ -1,19 +1,11 @@
-use Rattle.std.proofs.Common.{◌≡◌, ℕ, ◌+◌, ◌%◌, Some, vec_items, vec_len, refl, sym, subst, ◌∙◌, arith}
+use Rattle.std.proofs.Common.{◌≡◌, ℕ, ◌+◌, ◌%◌, Some, vec_items, vec_len, refl, sym, subst, ◌∙◌}
 use Rattle.tables.specs.Tables.{entry_of}
 use Rattle.books.specs.Rings.{Common, Lowest, RoomFor, Round}
 use Rattle.books.specs.declared.stored.Stored.{Stored}
 use Rattle.books.proofs.Mods.{class_at}
-use Rattle.books.proofs.Rounds.{Rounds, round_none, rounds_none, rounds_room, rounds_more, rounds_all}
+use Rattle.books.proofs.Rounds.{Rounds, round_none, rounds_room, rounds_more}
 use Rattle.books.proofs.stored.Stored.extend.Goals.{in-Some, in_default}
 use Rattle.books.proofs.stored.Stored.extend.Goals as goal
-
-pub loop-start-init : goal.loop-start-init
-loop-start-init c =
-    let old = c.args.self.now in
-    (refl, rounds_none (vec_len old.entries) c.args.unit c.common_divisor-stride.result (entry_of (vec_items old.entries)) old.some old.leaves)
-
-pub lowest-requires-clause-whole : goal.lowest-requires-clause-whole
-lowest-requires-clause-whole c = subst (λ (m : ℕ). m % c.common_divisor-stride.result ≡ 0) (c.base.ensures ∙ sym c.loop-start.invariant.0) c.common_divisor-stride.ensures.base
 
 pub walk-requires : goal.walk-requires
 walk-requires c =
@@ -60,16 +52,3 @@ loop-start-preserved c =
           (more stored refl
           (round_none (vec_len stored.entries) c.args.unit d c.loop-start.start entry stored.some stored.leaves w.in_default.ensures))
     ]
-
-pub returns : goal.returns
-returns c =
-    let old = c.args.self.now in
-    let w = c.loop-start.invariant in
-    record {
-      extended =
-          rounds_all (vec_len old.entries) c.args.unit c.common_divisor-stride.result c.loop-start.start
-          (entry_of (vec_items old.entries)) (entry_of (vec_items c.loop-start.self.entries)) old.some
-          (subst (λ (m : ℕ). Common m c.args.unit c.common_divisor-stride.result) c.base.ensures c.common_divisor-stride.ensures)
-          w.1 (omega arith);
-      len = w.0;
-    }

@@ -1,9 +1,9 @@
-use Rattle.std.proofs.Common.{◌≡◌, ℕ, ◌+◌, ◌%◌, ◌≤◌, true, is_ok, None, vec_items, vec_len, vec_capacity, sym, ap, ◌∙◌, subst, arith}
+use Rattle.std.proofs.Common.{◌≡◌, ℕ, ◌+◌, ◌%◌, ◌≤◌, true, is_ok, None, vec_items, vec_len, vec_capacity, sym, ◌∙◌, subst, arith}
 use Rattle.files.specs.Layout.{file_base, file_entry}
 use Rattle.std.proofs.lemmas.Bool.{cond-true}
 use Rattle.tables.specs.Tables.{entry_of}
 use Rattle.tables.proofs.Present.{not_both}
-use Rattle.books.proofs.Filed.{copied_all, copied_leaves, copied_more, copied_none, emptied, file_leaves, file_past, file_some}
+use Rattle.books.proofs.Filed.{copied_leaves, copied_more, emptied, file_leaves, file_some}
 use Rattle.books.proofs.stored.Stored.refill.Goals as goal
 
 pub invariant_of-self : goal.invariant_of-self
@@ -17,13 +17,6 @@ invariant_of-self c =
     emptied _ _ _ _ c.clear.ensures.items (c.resize.ensures.items ∙ cond-true _ _ _ ok) in
     record { some = some; few = few; space = space; leaves = λ r e p. absurd (not_both (entry_of (vec_items c.resize.new.self) r) e p (absent r)) }
 
-pub loop-remainder-init : goal.loop-remainder-init
-loop-remainder-init c =
-    let ok : is_ok c.resize.result ≡ true = ap (λ r. is_ok r) c.unwrap.ensures in (
-      c.resize.ensures.len ∙ cond-true _ _ _ ok ∙ c.base-base.ensures,
-      copied_none (file_entry c.args.file.now) (vec_items c.resize.new.self) (emptied _ _ _ _ c.clear.ensures.items (c.resize.ensures.items ∙ cond-true _ _ _ ok)),
-    )
-
 pub invariant_of-self-in-loop-remainder-clause-leaves : goal.invariant_of-self-in-loop-remainder-clause-leaves
 invariant_of-self-in-loop-remainder-clause-leaves c =
     let bytes = c.args.file.now in
@@ -31,17 +24,3 @@ invariant_of-self-in-loop-remainder-clause-leaves c =
     (omega (arith, c.loop-remainder.invariant.0, c.loop-remainder.self.entries.ok.0, c.base-base.ensures)) c.entry.ensures c.loop-remainder.invariant.1 in
     λ r e p. subst (λ m. e % m ≡ r) (sym c.loop-remainder.invariant.0)
     (copied_leaves (file_entry bytes) (file_base bytes) (c.loop-remainder.remainder + 1) _ (file_leaves bytes c.requires.accepted c.requires.again.row) w r e p)
-
-pub loop-remainder-preserved : goal.loop-remainder-preserved
-loop-remainder-preserved c =
-    let bytes = c.args.file.now in (
-      c.loop-remainder.invariant.0,
-      copied_more (file_entry bytes) c.loop-remainder.remainder c.entry.result (vec_items c.loop-remainder.self.entries)
-          (omega (arith, c.loop-remainder.invariant.0, c.loop-remainder.self.entries.ok.0, c.base-base.ensures)) c.entry.ensures c.loop-remainder.invariant.1,
-    )
-
-pub returns-clause-entries : goal.returns-clause-entries
-returns-clause-entries c =
-    let bytes = c.args.file.now in
-    copied_all (file_entry bytes) (file_base bytes) c.loop-remainder.remainder (vec_items c.loop-remainder.self.entries)
-    (omega (arith, c.base-base.ensures)) (file_past bytes) c.loop-remainder.invariant.1

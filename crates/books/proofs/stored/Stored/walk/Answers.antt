@@ -1,26 +1,15 @@
-use Rattle.std.proofs.Common.{◌≡◌, ℕ, ◌+◌, ◌-◌, ◌*◌, ◌/◌, ◌%◌, ◌<◌, ◌≤◌, vec_items, vec_len, sym, ap, subst, add-mul, arith, rules}
-use Rattle.std.proofs.lemmas.Nat.{mul-le}
+use Rattle.std.proofs.Common.{◌≡◌, ◌+◌, ◌/◌, ◌%◌, vec_items, vec_len, ap, subst, arith}
 use Rattle.tables.specs.Tables.{entry_of}
-use Rattle.books.proofs.Mods.{ring_short, ring_some}
-use Rattle.books.proofs.Walks.{walk_none, walk_step, walk_round}
+use Rattle.books.proofs.Mods.{ring_some}
+use Rattle.books.proofs.Walks.{walk_step, walk_round}
 use Rattle.books.proofs.stored.Stored.walk.Goals as goal
 
-pub loop-step-init : goal.loop-step-init
-loop-step-init c =
+pub loop-step-preserved : goal.loop-step-preserved
+loop-step-preserved c =
     let old = c.args.self.now in
-    walk_none (vec_len old.entries) c.args.unit c.args.stride c.args.low (vec_items old.entries)
-    (sym old.entries.ok.0) old.leaves c.requires.lowest
-
-pub overflow_add-load : goal.overflow_add-load
-overflow_add-load c =
-    let m : ℕ = vec_len c.args.self.now.entries in
-    let most : (c.loop-step._step + 1) * c.args.unit ≤ (m - 1) * c.args.unit =
-    mul-le (c.loop-step._step + 1) c.args.unit (m - 1) c.args.unit
-    (omega (arith, ring_short m c.args.unit c.args.stride c.args.self.now.some c.requires.common, c.base-base.ensures))
-    (omega arith) in
-    let sum : c.loop-step.load + c.args.unit < 4294967296 =
-    omega (arith, most, c.loop-step.invariant.high, c.requires.room, add-mul c.loop-step._step 1 c.args.unit) in
-    search rules
+    walk_step (vec_len old.entries) c.args.unit c.args.stride c.args.low c.loop-step._step
+    (entry_of (vec_items old.entries)) (vec_items c.loop-step.self.entries) c.loop-step.load old.some c.requires.common c.loop-step.invariant
+    _ _ _ (ap (λ m. (c.loop-step.load + c.args.unit) % m) c.base-base.ensures) c.least.ensures c.lower_load-load.ensures
 
 pub invariant_of-self-clause-leaves : goal.invariant_of-self-clause-leaves
 invariant_of-self-clause-leaves c =
@@ -30,13 +19,6 @@ invariant_of-self-clause-leaves c =
     _ _ _ (ap (λ m. (c.loop-step.load + c.args.unit) % m) c.base-base.ensures) c.least.ensures c.lower_load-load.ensures in
     let long : vec_len old.entries ≡ vec_len c.loop-step.self.entries = omega (arith, c.loop-step.invariant.size, c.loop-step.self.entries.ok.0) in
     λ r e p. subst (λ m. e % m ≡ r) long (w.leaves r e p)
-
-pub loop-step-preserved : goal.loop-step-preserved
-loop-step-preserved c =
-    let old = c.args.self.now in
-    walk_step (vec_len old.entries) c.args.unit c.args.stride c.args.low c.loop-step._step
-    (entry_of (vec_items old.entries)) (vec_items c.loop-step.self.entries) c.loop-step.load old.some c.requires.common c.loop-step.invariant
-    _ _ _ (ap (λ m. (c.loop-step.load + c.args.unit) % m) c.base-base.ensures) c.least.ensures c.lower_load-load.ensures
 
 pub returns-clause-round : goal.returns-clause-round
 returns-clause-round c =
