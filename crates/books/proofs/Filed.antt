@@ -47,9 +47,6 @@ pub record Copied (entry : ℕ → Option ℕ) (k : ℕ) (entries : List (Option
   pub beyond : (r : ℕ) → k ≤ r → entry_of entries r ≡ None
 
 module _ (entry : ℕ → Option ℕ) where
-  pub copied_none : (entries : List (Option ℕ)) → ((r : ℕ) → entry_of entries r ≡ None) → Copied entry 0 entries
-  copied_none entries absent = record { below = λ r h. absurd (omega arith); beyond = λ r h. absent r }
-
   pub copied_more : (k : ℕ) (read : Option ℕ) (entries : List (Option ℕ)) → k < length entries → read ≡ entry k → Copied entry k entries → Copied entry (k + 1) (set entries k read)
   copied_more k read entries inside is old =
       record {
@@ -65,14 +62,6 @@ module _ (entry : ℕ → Option ℕ) where
       elim (cases_lt r k) [
         | inl low ↦ leaves r e (sym (w.below r low) ∙ p)
         | inr high ↦ absurd (not_both (entry_of entries r) e p (w.beyond r high))
-      ]
-
-  -- all are copied, where there are none from m on
-  pub copied_all : (m k : ℕ) (entries : List (Option ℕ)) → m ≤ k → ((r : ℕ) → m ≤ r → entry r ≡ None) → Copied entry k entries → (r : ℕ) → entry_of entries r ≡ entry r
-  copied_all m k entries h past w r =
-      elim (cases_lt r k) [
-        | inl low ↦ w.below r low
-        | inr high ↦ w.beyond r high ∙ sym (past r (omega arith))
       ]
 
 entries_same : (f g : ℕ → Option ℕ) → ((r : ℕ) → f r ≡ g r) → (r n : ℕ) → entries_from f r n ≡ entries_from g r n

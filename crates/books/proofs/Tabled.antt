@@ -4,9 +4,9 @@ use Rattle.std.proofs.lemmas.List.{get_or_past}
 use Rattle.tables.specs.Rows.{Table}
 use Rattle.tables.specs.Rules.{Rules}
 use Rattle.tables.specs.Tables.{entry_of}
-use Rattle.tables.specs.Tests.{AllClosed, AllStepped, Leaves}
+use Rattle.tables.specs.Tests.{AllClosed, AllStepped}
 use Rattle.tables.proofs.Certificate.{complete}
-use Rattle.tables.proofs.Tested.{start_from, leaves_from, closed_from, stepped_from}
+use Rattle.tables.proofs.Tested.{start_from, closed_from, stepped_from}
 
 module _ (m : ℕ) (units : List ℕ) (entries : List (Option ℕ)) (low : 1 ≤ m) (full : length entries ≡ m) (table : Table (m ∷ units) (entry_of entries)) where
   past : (r : ℕ) → m ≤ r → entry_of entries r ≡ None
@@ -17,9 +17,6 @@ module _ (m : ℕ) (units : List ℕ) (entries : List (Option ℕ)) (low : 1 ≤
 
   pub table_start : entry_of entries 0 ≡ Some 0
   table_start = start_from m units (entry_of entries) low past kept
-
-  pub table_leaves : Leaves m (entry_of entries)
-  table_leaves = leaves_from m units (entry_of entries) low past kept
 
   pub table_closed : AllClosed m units (entry_of entries)
   table_closed = closed_from m units (entry_of entries) low past kept

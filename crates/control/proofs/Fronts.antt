@@ -1,7 +1,7 @@
 -- Memory that is written from its beginning on, part by part.
 use Rattle.std.proofs.Common.{◌≡◌, ℕ, ◌+◌, ◌*◌, ◌<◌, ◌≤◌, List, ◌++◌, length, get_or, take, drop, sym, ap, ◌∙◌, arith}
 use Rattle.std.specs.List.{flat_map}
-use Rattle.files.proofs.Fronts.{part_more, part_all}
+use Rattle.files.proofs.Fronts.{part_more}
 
 from_zero : (n : ℕ) → 0 + n ≡ n
 from_zero n = omega arith
@@ -18,12 +18,3 @@ module _ (f : ℕ → List ℕ) (k : ℕ) (xs before now : List ℕ) (i : ℕ) w
       (was ∙ ap (λ (n : ℕ). flat_map f (take i xs) ++ drop n before) (sym (from_zero (k * i))))
       (is ∙ ap (λ (n : ℕ). take n now ++ f (get_or xs i 0) ++ drop (n + k) now) (sym (from_zero (k * i))))
       ∙ ap (λ (n : ℕ). flat_map f (take (i + 1) xs) ++ drop n before) (from_zero (k * (i + 1)))
-
-  -- all parts
-  pub front_all : i ≡ length xs
-      → now ≡ flat_map f (take i xs) ++ drop (k * i) before
-      → now ≡ flat_map f xs ++ drop (k * length xs) before
-  front_all end was =
-      part_all f k xs before now 0 i (length xs) end end
-      (was ∙ ap (λ (n : ℕ). flat_map f (take i xs) ++ drop n before) (sym (from_zero (k * i))))
-      ∙ ap (λ (n : ℕ). flat_map f xs ++ drop n before) (from_zero (k * length xs))

@@ -1,8 +1,5 @@
 -- What is told of a refusal by make: want of room in bytes, and all else as it is.
-use Rattle.std.proofs.Common.{◌≡◌, ℕ, ◌*◌, ◌/◌, ◌%◌, ◌<◌, ◌≤◌, min, List, ◌++◌, length, take, drop, Some, Ok, Err, Result, sym, refl, ap, ◌∙◌, subst, arith, length-append}
-use Rattle.std.proofs.lemmas.List.{length-take-le, take-append-le}
-use Rattle.std.specs.List.{flat_map}
-use Rattle.files.specs.Fields.{be32}
+use Rattle.std.proofs.Common.{◌≡◌, ℕ, ◌*◌, ◌/◌, ◌%◌, ◌<◌, ◌≤◌, min, List, length, Some, Ok, Err, Result, sym, refl, ap, subst, arith}
 use Rattle.files.specs.Judged.{Rejects, TrueFile, malformed, untrue}
 use Rattle.files.specs.Layout.{file_row}
 use Rattle.files.specs.Making.{MakeFrom, accepted, refused}
@@ -72,28 +69,3 @@ module _ (bytes : List ℕ) (load : ℕ) (places after : List ℕ) where
       let is : why ≡ reason = sym (ap (reason_or reason) e) in
       let rejects_it : Rejects bytes reason = subst (Rejects bytes) is rejects in
       calls.rejected false reason rejects_it (subst (λ (r : Refusal). Packed r answer) (rejects_told bytes reason told rejects_it t) packed) refl
-
-  pub make_done : (units : ℕ) (rest before out : List ℕ) → MakeFrom bytes load places (Ok units) after → length after ≡ length places → length places ≡ min (length before / 4) 16 → out ≡ flat_map be32 (take units (after ++ rest)) ++ drop (4 * length (take units (after ++ rest))) before → MakesBytes bytes load before 0 out
-  make_done units rest before out from long sized is =
-      let true = (made_from units from).0 in
-      let made = (made_from units from).1 in
-      let row : List ℕ = file_row bytes in
-      let front : take units (after ++ rest) ≡ take (length row) after =
-      take-append-le units after rest (omega (arith, made.all, made.room, long)) ∙ ap (λ (n : ℕ). take n after) made.all in
-      let size : length (take units (after ++ rest)) ≡ length row = ap length front ∙ length-take-le (length row) after (omega (arith, made.room, long)) in
-      done true refl (record {
-        small = made.small;
-        room = omega (arith, made.room, sized);
-        numbers = take (length row) after;
-        are = made.numbers;
-        adds = made.adds;
-        only = made.only;
-        front = is ∙ ap (λ (xs : List ℕ). flat_map be32 xs ++ drop (4 * length (take units (after ++ rest))) before) front ∙ ap (λ (n : ℕ). flat_map be32 (take (length row) after) ++ drop (4 * n) before) size;
-      })
-
-  -- the numbers that were written are no more than the bytes have room for
-  pub made_fits : (units : ℕ) (rest before : List ℕ) → MakeFrom bytes load places (Ok units) after → length after ≡ length places → length places ≡ min (length before / 4) 16 → 4 * length (take units (after ++ rest)) ≤ length before
-  made_fits units rest before from long sized =
-      let made = (made_from units from).1 in
-      let size : length (take units (after ++ rest)) ≡ units = length-take-le units (after ++ rest) (omega (arith, made.all, made.room, long, length-append after rest)) in
-      omega (arith, size, made.all, made.room, sized)

@@ -241,13 +241,6 @@ pub record Read (most : ℕ) (bytes : List ℕ) (i : ℕ) (value : Option ℕ) :
   pub none : i ≡ 0 → value ≡ None
   pub some : 0 < i → value ≡ Some (unwrap_or value 0)
 
-pub read_first : (most : ℕ) (bytes : List ℕ) → Read most bytes 0 None
-read_first most bytes = record {
-  so = record { fits = omega arith; start = λ _. refl; is = λ more. absurd (omega arith) };
-  none = λ _. refl;
-  some = λ more. absurd (omega arith);
-}
-
 -- no value is refused with what stands in for it
 pub refused_at : {o : Option ℕ} {i e : ℕ} → o ≡ None → Err e ≡ ok_or o i → e ≡ i
 refused_at {i = i} {e = e} none is = let err : ◌≡◌ {A = Result ℕ ℕ} (Err e) (Err i) = rw none at is in cc

@@ -26,9 +26,6 @@ stands lines place number bytes taken =
 pub record Sofar (lines : List (List ℕ)) (count : ℕ) (now : Standing) (out : List ℕ) : Type 0 where
   pub onward : (more : List ℕ) → Prints (count + 1) now (drop count lines) more → Prints 1 None lines (out ++ more)
 
-pub sofar_none : (lines : List (List ℕ)) → Sofar lines 0 None []
-sofar_none lines = record { onward = λ more rest. rest }
-
 pub sofar_more : (lines : List (List ℕ)) (count number : ℕ) (bytes : List ℕ) (before after : Standing) (outcome : Result Answer Refusal) (was is : List ℕ)
     → Sofar lines count before was → Stands lines count number bytes → Answers before bytes outcome after → AddsLine (number + 1) outcome was is → Sofar lines (count + 1) after is
 sofar_more lines count number bytes before after outcome was is sofar stands answers adds =

@@ -19,15 +19,3 @@ pub back_brings : (m g r : ℕ) → 1 ≤ m → r < m → (back m g r + g) % m �
 back_brings m g r some low =
     let e : r + (m - g % m) + g ≡ r + g + (m - g % m) = omega arith in
     mod-add-mod (r + (m - g % m)) m g ∙ ap (λ k. k % m) e ∙ whole m g r some low
-
--- the same in two cases, neither of which passes beyond the base
-pub back_down : (m g r : ℕ) → r < m → g % m ≤ r → back m g r ≡ r - g % m
-back_down m g r low under =
-    let l : g % m < m = mod-lt g (omega arith) in
-    let e : r + (m - g % m) ≡ (r - g % m) + m * 1 = omega arith in
-    ap (λ k. k % m) e ∙ add-mul-mod_self_left (r - g % m) m 1 ∙ mod-eq_of_lt (omega arith)
-
-pub back_round : (m g r : ℕ) → r < m → r < g % m → back m g r ≡ r + (m - g % m)
-back_round m g r low over =
-    let l : g % m < m = mod-lt g (omega arith) in
-    mod-eq_of_lt (omega arith)

@@ -1,5 +1,5 @@
 -- The loads that are not contained, listed in ascending order, are as many as the quotients of the entries by the base add up to.
-use Rattle.std.proofs.Common.{◌≡◌, ℕ, zero, suc, ◌+◌, ◌*◌, ◌/◌, ◌%◌, ◌<◌, ◌≤◌, min, Bool, true, false, cond, ltb, List, [], ◌∷◌, ◌++◌, length, get_or, Some, None, Option, unwrap_or, sym, refl, ap, ◌∙◌, subst, inl, inr, mod-lt, mod-eq_of_lt, mul-le-mul_left, mul-suc, mul-add, div-le_self, arith, below_more}
+use Rattle.std.proofs.Common.{◌≡◌, ℕ, zero, suc, ◌+◌, ◌*◌, ◌/◌, ◌%◌, ◌<◌, ◌≤◌, min, Bool, true, false, cond, ltb, List, [], ◌∷◌, ◌++◌, length, get_or, Some, None, Option, unwrap_or, sym, refl, ap, ◌∙◌, subst, inl, inr, mod-lt, mod-eq_of_lt, mul-le-mul_left, mul-suc, mul-add, arith}
 use native.Mathlib.Nat.{div-add-mod, mul-add-mod_self_left}
 use Rattle.std.proofs.lemmas.List.{length_push, get_or_push, get_or_append_left}
 use Rattle.std.proofs.lemmas.Bool.{cases_lt, cases_Bool, lt-ltb, le-ltb, ltb-true, cond-true, cond-false, both_ways}
@@ -196,13 +196,3 @@ pub record Counting (m : ℕ) (entry : ℕ → Option ℕ) (remainder total : �
   pub within : (k : ℕ) → k < remainder → Within entry k 4294967294
   pub adds : total ≡ sums (quotient m entry) remainder
   pub small : total ≤ remainder * 4294967294
-
-pub counting_more : (m : ℕ) (entry : ℕ → Option ℕ) (remainder total load : ℕ) → Lawful m entry → Counting m entry remainder total → entry remainder ≡ Some load → Counting m entry (remainder + 1) (total + load / m)
-counting_more m entry remainder total load lawful h some =
-    let value : quotient m entry remainder ≡ load / m = ap (λ o. unwrap_or o 0 / m) some in
-    record {
-      within = below_more (λ k. Within entry k 4294967294) remainder h.within (record { least = load; present = some; within = lawful.fits remainder load some });
-      adds = (let e : sums (quotient m entry) (suc remainder) ≡ sums (quotient m entry) (remainder + 1) = ap (sums (quotient m entry)) (let k : suc remainder ≡ remainder + 1 = omega arith in k) in
-          omega (arith, h.adds));
-      small = omega (arith, h.small, div-le_self load m, lawful.fits remainder load some);
-    }

@@ -62,11 +62,6 @@ module _ (m : ℕ) (entry : ℕ → Option ℕ) (r : ℕ) where
 
   -- a search for the first step, one unit on
   module _ (position : ℕ) (units : List ℕ) (i : ℕ) (h : i < length units) where
-    pub first_here : steps m entry r (get_or units i 0) ≡ true → first_step m entry r position (drop i units) ≡ Some position
-    first_here s =
-        at_drop_more (first_step m entry r position) units i 0 h
-        ∙ cond-true (steps m entry r (get_or units i 0)) (Some position) (first_step m entry r (position + 1) (drop (i + 1) units)) s
-
     pub first_on : steps m entry r (get_or units i 0) ≡ false → first_step m entry r position (drop i units) ≡ first_step m entry r (position + 1) (drop (i + 1) units)
     first_on s =
         at_drop_more (first_step m entry r position) units i 0 h
