@@ -1,10 +1,10 @@
 -- The entries of a base alone keep the rules: 0 at 0, and no other.
-use Rattle.std.proofs.Common.{◌≡◌, ℕ, zero, suc, ◌-◌, ◌<◌, ◌≤◌, List, [], ◌∷◌, length, replicate, Some, None, Option, sym, refl, ap, ◌∙◌, inl, inr, arith}
+use Rattle.std.proofs.Common.{◌≡◌, ℕ, zero, suc, ◌-◌, ◌≤◌, List, [], ◌∷◌, length, replicate, Some, None, Option, sym, refl, ap, ◌∙◌, inl, inr, arith}
 use Rattle.std.proofs.lemmas.List.{get_or-replicate, get_or_past, length-replicate}
 use Rattle.std.proofs.lemmas.Bool.{cases_lt}
 use Rattle.tables.specs.Tables.{entry_of}
 use Rattle.tables.specs.Tests.{AllClosed, AllStepped}
-use Rattle.tables.proofs.Present.{entry_cases, same_entry, not_both}
+use Rattle.tables.proofs.Present.{same_entry, not_both}
 use Rattle.tables.proofs.Tested.{some_present}
 
 -- nothing is present past 0
@@ -25,10 +25,6 @@ module _ (m n : ℕ) (xs : List (Option ℕ)) (is : xs ≡ Some 0 ∷ replicate 
 
   pub begun_start : entry_of xs 0 ≡ Some 0
   begun_start = ap (λ (zs : List (Option ℕ)). entry_of zs 0) is
-
-  pub begun_absent : (r : ℕ) → 0 < r → entry_of xs r ≡ None
-  begun_absent r above =
-      elim (entry_cases (entry_of xs r)) [ inl p ↦ p | inr q ↦ absurd (omega (arith, (only r q.0 q.1).0)) ]
 
   pub begun_closed : (others : List ℕ) → others ≡ [] → AllClosed m others (entry_of xs)
   begun_closed others none r j h = absurd (omega (arith, ap (λ (zs : List ℕ). length zs) none))

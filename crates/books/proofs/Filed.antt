@@ -2,7 +2,7 @@
 use Rattle.std.proofs.Common.{◌≡◌, ℕ, zero, suc, ◌+◌, ◌<◌, ◌≤◌, ltb, List, [], ◌∷◌, ◌++◌, length, take, drop, set, replicate, Some, None, Option, sym, refl, ap, ◌∙◌, inl, inr, arith}
 use Rattle.files.specs.Fields.{be16}
 use Rattle.files.specs.Judged.{TrueFile}
-use Rattle.files.specs.Layout.{file_base, file_entry, file_others, file_row, file_units}
+use Rattle.files.specs.Layout.{file_base, file_entry, file_others, file_row}
 use Rattle.files.specs.Written.{entries_from, entry_bytes, head_bytes, written}
 use Rattle.std.proofs.lemmas.Bool.{cases_lt, cases_eq, cond-false, le-ltb}
 use Rattle.std.proofs.lemmas.List.{get_or-set_same, get_or-set_other}
@@ -40,9 +40,6 @@ pub record Copied (entry : ℕ → Option ℕ) (k : ℕ) (entries : List (Option
   pub beyond : (r : ℕ) → k ≤ r → entry_of entries r ≡ None
 
 module _ (entry : ℕ → Option ℕ) where
-  pub copied_none : (entries : List (Option ℕ)) → ((r : ℕ) → entry_of entries r ≡ None) → Copied entry 0 entries
-  copied_none entries absent = record { below = λ r h. absurd (omega arith); beyond = λ r h. absent r }
-
   pub copied_more : (k : ℕ) (read : Option ℕ) (entries : List (Option ℕ)) → k < length entries → read ≡ entry k → Copied entry k entries → Copied entry (k + 1) (set entries k read)
   copied_more k read entries inside is old =
       record {
@@ -58,14 +55,6 @@ module _ (entry : ℕ → Option ℕ) where
       elim (cases_lt r k) [
         | inl low ↦ leaves r e (sym (w.below r low) ∙ p)
         | inr high ↦ absurd (not_both (entry_of entries r) e p (w.beyond r high))
-      ]
-
-  -- all are copied, where there are none from m on
-  pub copied_all : (m k : ℕ) (entries : List (Option ℕ)) → m ≤ k → ((r : ℕ) → m ≤ r → entry r ≡ None) → Copied entry k entries → (r : ℕ) → entry_of entries r ≡ entry r
-  copied_all m k entries h past w r =
-      elim (cases_lt r k) [
-        | inl low ↦ w.below r low
-        | inr high ↦ w.beyond r high ∙ sym (past r (omega arith))
       ]
 
 entries_same : (f g : ℕ → Option ℕ) → ((r : ℕ) → f r ≡ g r) → (r n : ℕ) → entries_from f r n ≡ entries_from g r n
@@ -92,9 +81,6 @@ table_same row f g same table =
 -- no entry is listed from the base on
 pub file_past : (bytes : List ℕ) (r : ℕ) → file_base bytes ≤ r → file_entry bytes r ≡ None
 file_past bytes r h = cond-false (ltb r (file_base bytes)) _ None (le-ltb r (file_base bytes) h)
-
-pub file_few : (bytes : List ℕ) → TrueFile bytes → (1 ≤ file_units bytes) × (file_units bytes ≤ 16)
-file_few bytes true = (true.formed.kept 2 (omega arith)).1
 
 -- what a true file lists is what a book holds
 module _ (bytes : List ℕ) (true : TrueFile bytes) (row : Row (file_row bytes)) where

@@ -3,10 +3,7 @@ use Rattle.std.proofs.Common.{◌≡◌, ℕ, suc, ◌<◌, ◌≤◌, true, fal
 use Rattle.std.proofs.lemmas.Bool.{le-leb, lt-leb, lt-ltb, le-ltb, eq-eqb, ne_eqb}
 use Rattle.tables.specs.declared.refusals.Refusal.TheVariants.{AlreadyAdmitted, RowFull, NotAdmitted, IsBase, NoRoom}
 use Rattle.books.specs.Units.{has}
-use Rattle.books.specs.Calls.{open_refusal, admit_refusal, withdraw_refusal}
-
-pub open_fits : (base : ℕ) → 1 ≤ base → base ≤ 4096 → open_refusal base ≡ None
-open_fits base l h = simp (le-leb 1 base l, le-leb base 4096 h)
+use Rattle.books.specs.Calls.{admit_refusal, withdraw_refusal}
 
 module _ (base : ℕ) (xs : List ℕ) (g : ℕ) (apart : base ≡ g → ⊥) where
   pub admit_there : 1 ≤ g → g ≤ 65535 → has g xs ≡ true → admit_refusal (base ∷ xs) g ≡ Some (AlreadyAdmitted g)

@@ -1,9 +1,9 @@
 -- One round after another, until every ring is closed.
-use Rattle.std.proofs.Common.{◌≡◌, ℕ, ◌+◌, ◌*◌, ◌%◌, ◌<◌, ◌≤◌, Some, None, Option, sym, refl, ap, ◌∙◌, inl, inr, mod-lt, zero-mul, arith}
+use Rattle.std.proofs.Common.{◌≡◌, ℕ, ◌+◌, ◌*◌, ◌%◌, ◌<◌, ◌≤◌, Some, None, Option, sym, refl, ap, ◌∙◌, inl, inr, zero-mul, arith}
 use Rattle.std.proofs.lemmas.Bool.{cases_eq}
 use Rattle.tables.specs.Tables.{Within}
 use Rattle.tables.proofs.Present.{not_both}
-use Rattle.books.specs.Rings.{Grown, Common, Lowest, Round, Extended, Room, RingRoom}
+use Rattle.books.specs.Rings.{Grown, Common, Lowest, Round, Room, RingRoom}
 use Rattle.tables.specs.Tests.{Leaves}
 use Rattle.books.proofs.Mods.{class_at, class_add, ring_class}
 
@@ -29,17 +29,6 @@ round_none m g d s old some leaves none =
       lower = λ r e p. record { least = e; present = p; within = omega arith };
       closed = λ r e c p. absurd (not_both (old r) e p (none r c));
       stays = λ r c. refl;
-    }
-
--- before the first round
-pub rounds_none : (m g d : ℕ) (old : ℕ → Option ℕ) → 1 ≤ m → Leaves m old → Rounds m g d 0 old old
-rounds_none m g d old some leaves =
-    record {
-      leaves = leaves;
-      grown = λ r e p. grown_none m g r e old some p;
-      lower = λ r e p. record { least = e; present = p; within = omega arith };
-      closed = λ r e l p. absurd (omega arith);
-      stays = λ r l. refl;
     }
 
 module _ (m g d s : ℕ) (old cur : ℕ → Option ℕ) (some : 1 ≤ m) (k : Common m g d) (w : Rounds m g d s old cur) where
@@ -92,14 +81,4 @@ module _ (m g d s : ℕ) (old cur : ℕ → Option ℕ) (some : 1 ≤ m) (k : Co
               }
         ];
         stays = λ r l. v.stays r (λ q. omega arith) ∙ w.stays r (omega arith);
-      }
-
-  -- after the last round
-  pub rounds_all : d ≤ s → Extended m g old cur
-  rounds_all h =
-      record {
-        leaves = w.leaves;
-        grown = w.grown;
-        lower = w.lower;
-        closed = λ r e p. w.closed r e (omega (arith, mod-lt r k.some)) p;
       }

@@ -3,10 +3,7 @@ use Rattle.std.proofs.Common.{◌≡◌, ℕ, List, Some, None, Ok, Err, Option,
 use Rattle.tables.specs.declared.refusals.Refusal.{Refusal}
 use Rattle.books.specs.declared.book.Book.{Book}
 use Rattle.books.specs.Books.{row_of}
-use Rattle.books.specs.Calls.{Opened, OpensUnless, Turns}
-
-pub opens_accepted : (o : Option Refusal) (base : ℕ) (book : Book) → o ≡ None → Opened base book → OpensUnless o base (Ok book)
-opens_accepted o base book e h = subst (λ (p : Option Refusal). OpensUnless p base (Ok book)) (sym e) h
+use Rattle.books.specs.Calls.{Turns}
 
 pub turns_refused : (o : Option Refusal) (row : List ℕ) (before : Book) (reason : Refusal) → o ≡ Some reason → Turns o row before (Err reason) before
 turns_refused o row before reason e =

@@ -1,11 +1,11 @@
 -- The walk over a ring from its lowest entry: before the first step, one step on, and after a whole round.
-use Rattle.std.proofs.Common.{◌≡◌, ℕ, ◌+◌, ◌*◌, ◌/◌, ◌%◌, ◌<◌, ◌≤◌, min, ◌⊎◌, List, length, set, Some, None, Option, sym, refl, ap, ◌∙◌, subst, inl, inr, mod-lt, add-mul, zero-mul, arith}
+use Rattle.std.proofs.Common.{◌≡◌, ℕ, ◌+◌, ◌*◌, ◌/◌, ◌%◌, ◌<◌, ◌≤◌, min, ◌⊎◌, List, length, set, Some, None, Option, sym, refl, ap, ◌∙◌, subst, inl, inr, mod-lt, add-mul, arith}
 use native.Mathlib.Nat.{mod-add-mod}
 use Rattle.std.proofs.lemmas.List.{length-set, get_or-set_same, get_or-set_other}
 use Rattle.std.proofs.lemmas.Bool.{cases_eq, cases_lt}
 use Rattle.tables.specs.Tables.{Within, entry_of}
 use Rattle.tables.proofs.Present.{same_entry, not_both}
-use Rattle.books.specs.Rings.{Grown, Common, Lowest, Round, lesser_load}
+use Rattle.books.specs.Rings.{Grown, Common, Round, lesser_load}
 use Rattle.tables.specs.Tests.{Leaves}
 use Rattle.books.proofs.Mods.{same_add, ring_class, ring_closes, ring_covers, ring_short}
 
@@ -66,25 +66,6 @@ grown_one k g e old w =
       present = w.present;
       few = omega (arith, w.few);
       adds = omega (arith, w.adds, add-mul w.times 1 g);
-    }
-
--- before the first step
-pub walk_none : (m g d low : ℕ) (old : List (Option ℕ)) → length old ≡ m → Leaves m (entry_of old)
-    → Lowest m d (low % d) (entry_of old) (Some low) → Walk m g d low 0 (entry_of old) old low
-walk_none m g d low old size leaves lowest =
-    record {
-      size = size;
-      here = lowest.0;
-      place = ap (λ (z : ℕ). z % m) (let q : low ≡ low + 0 * g = omega (arith, zero-mul g) in q);
-      high = omega (arith, zero-mul g);
-      least = omega arith;
-      leaves = leaves;
-      grown = λ r e p. record
-          { from = r; least = e; times = 0; present = p; few = omega arith; adds = omega (arith, zero-mul g) };
-      lower = λ r e p. record { least = e; present = p; within = omega arith };
-      edges = λ j e l ne p. absurd (omega arith);
-      above = lowest.2;
-      stays = λ r c. refl;
     }
 
 module _ (m g d low step : ℕ) (old : ℕ → Option ℕ) (cur : List (Option ℕ)) (n : ℕ) (some : 1 ≤ m) (k : Common m g d)

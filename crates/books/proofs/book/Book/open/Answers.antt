@@ -1,8 +1,6 @@
-use Rattle.std.proofs.Common.{◌≡◌, ℕ, ◌-◌, ◌≤◌, List, ◌∷◌, length, vec_items, vec_len, refl, ap, arith}
+use Rattle.std.proofs.Common.{◌≡◌, ℕ, ◌-◌, ◌≤◌, List, length, vec_items, vec_len, refl, ap, arith}
 use Rattle.books.specs.Units.{Apart, Rising, Sized, Small}
-use Rattle.books.proofs.Begins.{begun_start, begun_absent, begun_closed, begun_stepped, begun_full}
-use Rattle.books.proofs.Refused.{open_fits}
-use Rattle.books.proofs.Turned.{opens_accepted}
+use Rattle.books.proofs.Begins.{begun_start, begun_closed, begun_stepped, begun_full}
 use Rattle.books.proofs.book.Book.open.Goals as goal
 
 pub invariant_of-result : goal.invariant_of-result
@@ -37,16 +35,4 @@ invariant_of-result c =
       start = start;
       closed = closed;
       stepped = stepped;
-    }
-
-pub returns : goal.returns
-returns c =
-    let base = c.args.base in
-    let entries = vec_items c.in_ok-stored.stored.entries in
-    let is = c.in_ok-stored.ensures in
-    opens_accepted _ base _ (open_fits base c.in_ok-check_range.ensures.0 c.in_ok-check_range.ensures.1)
-    record {
-      row = ap (λ (xs : List ℕ). base ∷ xs) c.in_ok-others.ensures.items;
-      zero = begun_start base (base - 1) entries is;
-      absent = begun_absent base (base - 1) entries is;
     }
