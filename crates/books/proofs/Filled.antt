@@ -1,11 +1,10 @@
--- Entries written from loads: no load at first, one more, and the table of all of them.
+-- The loads of a merge, each written at its remainder, are the true table of the row.
 use Rattle.std.proofs.Common.{ℕ, ◌%◌, ◌≤◌, List, ◌∷◌, get_or, Option, sym, ap, ◌∙◌, subst}
 use Rattle.books.specs.Leasts.{Leasts, Entered}
 use Rattle.tables.specs.Rows.{Makes, Table}
 use Rattle.tables.specs.Tables.{entry_of}
 use Rattle.tables.proofs.Present.{not_both}
 
--- the loads of a merge, each at its remainder, are the true table
 pub table_filled : (m : ℕ) (sizes order : List ℕ) (n : ℕ) (entries : List (Option ℕ))
     → Leasts m sizes order n → Entered m order n entries → Table (m ∷ sizes) (entry_of entries)
 table_filled m sizes order n entries loads entered = record {

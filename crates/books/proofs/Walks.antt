@@ -1,4 +1,4 @@
--- The walk over a ring from its lowest entry: before the first step, one step on, and after a whole round.
+-- The walk over a ring from its lowest entry: one step on, and after a whole round.
 use Rattle.std.proofs.Common.{◌≡◌, ℕ, ◌+◌, ◌*◌, ◌/◌, ◌%◌, ◌<◌, ◌≤◌, min, ◌⊎◌, List, length, set, Some, None, Option, sym, refl, ap, ◌∙◌, subst, inl, inr, mod-lt, add-mul, arith}
 use native.Mathlib.Nat.{mod-add-mod}
 use Rattle.std.proofs.lemmas.List.{length-set, get_or-set_same, get_or-set_other}

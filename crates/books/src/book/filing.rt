@@ -38,6 +38,7 @@ impl Stored {
         ensures len { vec_len self.new.entries ≡ file_base file.now }
     {
         let base = files::base(file);
+        // While the entries are written one by one, each is the file's or absent.
         self.entries.clear();
         self.entries.resize(base as usize, None).unwrap();
         for remainder in 0..base {
