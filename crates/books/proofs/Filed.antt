@@ -2,7 +2,7 @@
 use Rattle.std.proofs.Common.{◌≡◌, ℕ, zero, suc, ◌+◌, ◌<◌, ◌≤◌, ltb, List, [], ◌∷◌, ◌++◌, length, take, drop, set, replicate, Some, None, Option, sym, refl, ap, ◌∙◌, inl, inr, arith}
 use Rattle.files.specs.Fields.{be16}
 use Rattle.files.specs.Judged.{TrueFile}
-use Rattle.files.specs.Layout.{file_base, file_entry, file_others, file_row, file_units}
+use Rattle.files.specs.Layout.{file_base, file_entry, file_others, file_row}
 use Rattle.files.specs.Written.{entries_from, entry_bytes, head_bytes, written}
 use Rattle.std.proofs.lemmas.Bool.{cases_lt, cases_eq, cond-false, le-ltb}
 use Rattle.std.proofs.lemmas.List.{get_or-set_same, get_or-set_other, get_or-replicate, get_or_past, length-replicate}
@@ -88,9 +88,6 @@ table_same row f g same table =
 -- no entry is listed from the base on
 pub file_past : (bytes : List ℕ) (r : ℕ) → file_base bytes ≤ r → file_entry bytes r ≡ None
 file_past bytes r h = cond-false (ltb r (file_base bytes)) _ None (le-ltb r (file_base bytes) h)
-
-pub file_few : (bytes : List ℕ) → TrueFile bytes → (1 ≤ file_units bytes) × (file_units bytes ≤ 16)
-file_few bytes true = (true.formed.kept 2 (omega arith)).1
 
 -- what a true file lists is what a book holds
 module _ (bytes : List ℕ) (true : TrueFile bytes) (row : Row (file_row bytes)) where

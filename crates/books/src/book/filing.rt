@@ -39,9 +39,10 @@ impl Stored {
         ensures len { vec_len self.new.entries ≡ file_base file.now }
     {
         let base = files::base(file);
+        // All are absent first, and then written in place: pushed one by one they would change the base in the loop, by which
+        // each entry leaves its remainder.
         self.entries.clear();
         self.entries.resize(base as usize, None).unwrap();
-        // Pushed one by one they would change the base in the loop, by which each entry leaves its remainder.
         for remainder in 0..base {
             self.entries[remainder as usize] = files::entry(file, remainder);
         }

@@ -6,7 +6,7 @@ use Rattle.tables.specs.Rows.{Table}
 use Rattle.tables.specs.Tables.{entry_of}
 use Rattle.tables.specs.Tests.{AllClosed, AllStepped}
 use Rattle.books.specs.Units.{Apart, Rising, Sized, Small}
-use Rattle.books.proofs.Filed.{file_few, listed_closed, listed_start, listed_stepped, listed_table, written_same}
+use Rattle.books.proofs.Filed.{listed_closed, listed_start, listed_stepped, listed_table, written_same}
 use Rattle.books.specs.Held.{book_table}
 use Rattle.books.proofs.book.Book.restore.Goals as goal
 
@@ -14,14 +14,6 @@ pub returns-in_err-judge : goal.returns-in_err-judge
 returns-in_err-judge c =
     let p = err_from_is_err_and c.from_residual.result c.from_residual.ensures.1 in
     rw (p.1, p.2) (record { turns = (c.in_err-judge.ensures.verdict, refl); table = book_table c.args.self.now })
-
-pub refill_sizes-requires : goal.refill_sizes-requires
-refill_sizes-requires c =
-    let few = file_few c.args.file.now c.in_ok-judge.ensures.verdict in
-    record { some = few.0; few = few.1; room = c.args.self.now.room }
-
-pub refill-requires : goal.refill-requires
-refill-requires c = record { accepted = c.in_ok-judge.ensures.verdict; again = c.in_ok-judge.ensures.again }
 
 pub invariant_of-self : goal.invariant_of-self
 invariant_of-self c =
