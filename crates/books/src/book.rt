@@ -24,7 +24,7 @@ pub(crate) const MOST_OTHERS: usize = 15;
 /// the base; and the entries keep the rules by which they are the true table of the row. The types of the entries and of the
 /// loads that a rebuild finds keep what always holds of those alone, the memory that was set aside for them among it.
 // The others are a sorted list and no set of the library's, which would take memory at each admit. That the table is true is a
-// law of the type; the contracts of the calls that change it say it too, where they are read.
+// law of the type; contracts of the calls that change it would be no plainer without it, since their readers would look for it.
 #[derive(Drop)]
 pub struct Book {
     base: u16,

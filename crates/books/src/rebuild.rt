@@ -34,6 +34,7 @@ pub(crate) fn tabulate(others: &[u16], stored: &mut Stored, strip: &mut [u8], lo
     ensures len { vec_len stored.new.entries ≡ vec_len stored.old.entries }
 {
     let base = stored.base();
+    // Arrays and no `Vec`s: a rebuild takes no memory.
     let mut pointers = [Pointer { size: 0, at: 0 }; MOST_OTHERS];
     let pointers = &mut pointers[..others.len()];
     start(pointers, others);

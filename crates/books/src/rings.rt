@@ -21,7 +21,7 @@ ghost use Rattle.tables.specs.Tables.{entry_of};
 use crate::stored::Stored;
 
 /// The greatest common divisor of a base and a unit, by Euclid's algorithm.
-// A pair finds its divisor with an inverse beside it: shared below both crates that would be a public call that asks for its ranges.
+// A pair needs an inverse beside it, and the function that finds both asks for ranges, which no public call may.
 fn common_divisor(base: u32, unit: u32) -> u32
     requires { 1 ≤ base }
     ensures { Common base unit result }
@@ -54,6 +54,7 @@ impl Stored {
         requires whole { vec_len self.now.entries % stride ≡ 0 }
         ensures { Lowest (vec_len self.now.entries) stride start (entry_of self.now.entries.items) result }
     {
+        // With `filter_map(..).min()` over the turns the proof did not close: it loses which entries there were.
         let mut low = None;
         for turn in self.entries.chunks_exact(stride as usize) {
             low = lower_entry(low, turn[start as usize]);

@@ -24,6 +24,7 @@ fn write_numbers(numbers: &[u32], out: &mut [u8])
     requires { 4 * length numbers.now ≤ length out.old }
     ensures { out.new ≡ flat_map be32 numbers.now ++ drop (4 * length numbers.now) out.old }
 {
+    // The writes of a file do the same, but are no public call, as they ask for room.
     // Over `out.chunks_exact_mut(4).zip(numbers)` the proof does not close: the library does not say what the bytes are once lent chunks end.
     for (at, number) in numbers.iter().enumerate() {
         out[4 * at..4 * at + 4].copy_from_slice(&number.to_be_bytes());

@@ -16,6 +16,7 @@ pub(crate) fn pack(reason: Refusal) -> u64
 }
 
 /// The refusal with want of room told in bytes, four for each number.
+// No `From`, nor for `pack`: a conversion can ask nothing, and these ask that the place is small.
 pub(crate) fn in_bytes(reason: Refusal) -> Refusal
     requires { Short 1073741824 reason }
     ensures { InBytes reason result }

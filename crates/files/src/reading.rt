@@ -6,7 +6,7 @@ ghost use Rattle.std.specs.List.{slice_get};
 
 use crate::fields::read;
 
-// The bytes are passed as they are: a struct round them would hold nothing else, and the public calls take bytes.
+// The bytes are passed as they are, since the public calls take bytes; the structs round them are for what reads entries.
 
 /// The number that stands for an absent entry.
 // The file's format has four bytes for an entry and no other way to leave it out.

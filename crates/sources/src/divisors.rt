@@ -11,8 +11,8 @@ pub(crate) struct Solution {
 }
 
 /// The greatest common divisor, since whatever divides both units divides what is left of them.
-// A book finds a divisor of its own for any base and size: shared below both crates this would be a public call that asks for its ranges.
 /// Where Euclid's way takes turns away, this adds what makes them whole bases, so that no number goes below 0.
+// A book finds a divisor without this. Below both crates it would be a public call, and none of those may ask for ranges.
 pub(crate) fn solve(base: u32, other: u32) -> Solution
     requires { (1 ≤ base) × ((base ≤ 4096) × (1 ≤ other)) }
     ensures { Solved base other result.divisor result.times }

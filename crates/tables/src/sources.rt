@@ -3,8 +3,8 @@
 ghost use Rattle.std.specs.Prelude.{◌≡◌, ◌≤◌, ℕ, None, Option};
 ghost use Rattle.tables.specs.Tables.{Lawful};
 
-/// Entries by remainder: a base and, for each remainder by it, a load, if there is one. Nothing is promised of them yet: the
-/// entries of a file that has not been judged are of this kind.
+/// Entries by remainder: a base and, for each remainder by it, a load, if there is one. Of the loads nothing is promised yet,
+/// but that there is none from the base on (`past`): the entries of a file that has not been judged are of this kind.
 ///
 /// The ghost members tell what the two questions answer: `modulus` is the base, and `entry` has the entry at each remainder.
 /// The questions alter nothing and are never refused, so that whatever reads entries needs only these promises.

@@ -9,6 +9,7 @@ use super::View;
 use crate::{reading, stepping};
 use tables::{Entries, Showing, Source};
 
+// An unjudged file answers the same, but is no source: the view has the facts that make it one, and they are about its own bytes.
 impl Entries for View<'_> {
     ghost modulus = { λ v. file_base v.file.now };
 
