@@ -5,12 +5,13 @@ use files::{base, entry, judge, make_from, save, size, units};
 use tables::Refusal;
 
 /// The file of the row 5, 8, 12, with the entries 0, 16, 12, 8, 24.
-const FILE: &[u8; 32] =
+const FILE: &[u8] =
     b"RTB\x00\x01\x03\x00\x05\x00\x08\x00\x0c\x00\x00\x00\x00\x00\x00\x00\x10\x00\x00\x00\x0c\x00\x00\x00\x08\x00\x00\x00\x18";
 
 /// The verdict on the file with two bytes changed, from an offset on.
 fn judge_changed(at: usize, bytes: [u8; 2]) -> Result<(), Refusal> {
-    let mut file = *FILE;
+    let mut file = [0; 32];
+    file.copy_from_slice(FILE);
     if at < 31 {
         file[at] = bytes[0];
         file[at + 1] = bytes[1];
@@ -20,7 +21,8 @@ fn judge_changed(at: usize, bytes: [u8; 2]) -> Result<(), Refusal> {
 
 /// The verdict on the file with these entries.
 fn judge_entries(entries: [u32; 5]) -> Result<(), Refusal> {
-    let mut file = *FILE;
+    let mut file = [0; 32];
+    file.copy_from_slice(FILE);
     for (field, entry) in file[12..].chunks_exact_mut(4).zip(entries) {
         field.copy_from_slice(&entry.to_be_bytes());
     }
@@ -157,7 +159,7 @@ fn refuses_to_make_from_file(rt: HostRuntime) {
 fn saves_file(rt: HostRuntime) {
     let mut out = [7; 34];
     assert_eq!(rt; save(&Sample, &mut out), Ok(32));
-    assert!(rt; &out[0..32] == FILE.as_slice());
+    assert!(rt; &out[0..32] == FILE);
     assert!(rt; &out[32..34] == b"\x07\x07".as_slice());
 }
 
@@ -171,7 +173,8 @@ fn refuses_to_save_in_short_memory(rt: HostRuntime) {
 #[test]
 fn refuses_every_damaged_byte(rt: HostRuntime) {
     for at in 0..32 {
-        let mut file = *FILE;
+        let mut file = [0; 32];
+        file.copy_from_slice(FILE);
         file[at] ^= 1;
         assert!(rt; judge(&file).is_err());
         file[at] ^= 129;
