@@ -1,14 +1,8 @@
 use Rattle.std.proofs.Common.{Bool, ◌||◌, vec_items, sym, ap, ◌∙◌}
-use Rattle.std.proofs.lemmas.Bool.{eq-eqb, ne_eqb}
+use Rattle.std.proofs.lemmas.Bool.{ne_eqb}
 use Rattle.books.specs.Units.{has}
 use Rattle.books.proofs.Lists.{found}
 use Rattle.books.proofs.book.Book.holds.Goals as goal
-
-pub returns-then-size-from : goal.returns-then-size-from
-returns-then-size-from c =
-    let book = c.args.self.now in
-    eq-eqb c.args.size c.from.result c.if-size-from.true
-    ∙ sym (ap (λ (b : Bool). b || has c.args.size (vec_items book.others)) (eq-eqb book.base c.args.size (sym (c.if-size-from.true ∙ c.from.ensures))))
 
 pub returns-else-size-from : goal.returns-else-size-from
 returns-else-size-from c =
