@@ -10,6 +10,7 @@ pub mod Rounds
 pub mod Wholes
 pub mod Extends
 pub mod Filed
+pub mod Held
 pub mod Refused
 pub mod Turned
 pub mod Runs

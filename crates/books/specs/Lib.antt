@@ -8,7 +8,6 @@ pub mod Leasts
 pub mod Strips
 pub mod Books
 pub mod Lawful
-pub mod Held
 pub mod Calls
 pub mod Pasts
 pub mod Surveys

@@ -6,7 +6,7 @@ ghost use Rattle.common_loads.specs.Trios.{entries};
 ghost use Rattle.tables.specs.Tables.{entry_of};
 ghost use Rattle.tables.specs.Written.{written_lawful};
 
-use sources::{Meet, Pair};
+use sources::{Meet, Pair, Unequal};
 use std::io;
 use tables::{Entries, Refusal, Source, gaps, largest};
 
@@ -43,6 +43,32 @@ impl Source for Trio {
     ghost lawful = { λ _. written_lawful entries refl };
 }
 
+/// What ends the program early.
+// An enum of this program's own and no `anyhow::Error`, which would print the same failures in other words.
+#[derive(Debug, Drop)]
+enum Failure {
+    Refused(Refusal),
+    Unwritten(io::Error),
+}
+
+impl From<Refusal> for Failure {
+    fn from(reason: Refusal) -> Failure {
+        Failure::Refused(reason)
+    }
+}
+
+impl<A: Drop, B: Drop> From<Unequal<A, B>> for Failure {
+    fn from(unequal: Unequal<A, B>) -> Failure {
+        Failure::Refused(unequal.reason)
+    }
+}
+
+impl From<io::Error> for Failure {
+    fn from(e: io::Error) -> Failure {
+        Failure::Unwritten(e)
+    }
+}
+
 /// Prints the entry at each remainder by the base.
 fn print_entries<S: Entries>(rt: &impl Print, source: &S) -> io::Result<()> {
     let base = source.base();
@@ -57,7 +83,7 @@ fn print_entries<S: Entries>(rt: &impl Print, source: &S) -> io::Result<()> {
 }
 
 /// Prints what there is to know of the loads of a source.
-fn print_source<S: Source>(rt: &impl Print, label: &str, source: &S) -> anyhow::Result<()> {
+fn print_source<S: Source>(rt: &impl Print, label: &str, source: &S) -> Result<(), Failure> {
     println!(rt; "{label}:")?;
     print_entries(rt, source)?;
     let greatest = largest(source)?;
@@ -68,15 +94,15 @@ fn print_source<S: Source>(rt: &impl Print, label: &str, source: &S) -> anyhow::
 }
 
 /// Prints two sources, and then their meet, to which both are lent.
-fn run(rt: &impl Print) -> anyhow::Result<()> {
+fn run(rt: &impl Print) -> Result<(), Failure> {
     let pair = Pair::new(5, 7)?;
     let trio = Trio;
     print_source(rt, "Loads of units 5 and 7", &pair)?;
     print_source(rt, "Loads of units 5, 8 and 12", &trio)?;
-    let common = Meet::new(&pair, &trio).map_err(Refusal::from)?;
+    let common = Meet::new(&pair, &trio)?;
     print_source(rt, "Loads of both", &common)
 }
 
-fn main(rt: HostRuntime) -> anyhow::Result<()> {
+fn main(rt: HostRuntime) -> Result<(), Failure> {
     run(&rt)
 }

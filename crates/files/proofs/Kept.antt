@@ -8,7 +8,7 @@ module _ (bytes : List ℕ) where
   pub kept_none : Kept bytes 0
   kept_none field h = absurd (omega arith)
 
-  kept_more : (count : ℕ) → Kept bytes count → field_end count ≤ length bytes → Keeps bytes count → Kept bytes (suc count)
+  pub kept_more : (count : ℕ) → Kept bytes count → field_end count ≤ length bytes → Keeps bytes count → Kept bytes (suc count)
   kept_more count kept ends keeps field h =
       elim (cases_lt field count) [
         | inl low ↦ kept field low

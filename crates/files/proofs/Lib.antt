@@ -11,3 +11,4 @@ pub mod Spelt
 pub mod Fronts
 pub mod Back
 pub mod Stepped
+pub mod Viewed

@@ -1,5 +1,5 @@
 -- The bytes of a file from an offset on, byte by byte.
-use Rattle.std.proofs.Common.{◌≡◌, ℕ, ◌+◌, ◌<◌, ◌≤◌, List, ◌++◌, length, get_or, take, drop, sym, refl, ap, ◌∙◌, arith}
+use Rattle.std.proofs.Common.{◌≡◌, ℕ, ◌+◌, ◌<◌, ◌≤◌, List, length, get_or, take, drop, sym, refl, ap, ◌∙◌, arith}
 use Rattle.std.proofs.Math.ListN.{replicate}
 use Rattle.std.proofs.lemmas.Grind.{same_number_lists, common_steps}
 use Rattle.std.proofs.lemmas.List.{get_or-drop, get_or-take, length-take-le}
@@ -24,10 +24,9 @@ module _ (bytes rest : List ℕ) (p n : ℕ) (is : rest ≡ between p (length by
       bytes_are bytes xs p n (ap length front ∙ length-take-le n rest enough)
       (λ i low. ap (λ (zs : List ℕ). get_or zs i 0) front ∙ get_or-take n rest i 0 low ∙ ap (λ (zs : List ℕ). get_or zs i 0) from)
 
-  -- some lie past the end: zeros, with the others in front
-  pub bytes_cut : length rest < n → rest ++ drop (length rest) (replicate n 0) ≡ bytes_at bytes p n
-  bytes_cut h =
-      bytes_are bytes (rest ++ drop (length rest) (replicate n 0)) p n (grind (arith, common_steps)) (λ i low. grind (arith, common_steps, from))
+  -- one after another, where each that lies past the end is a zero
+  pub bytes_each : (xs : List ℕ) → length xs ≡ n → ((i : ℕ) → i < n → get_or xs i 0 ≡ get_or rest i 0) → xs ≡ bytes_at bytes p n
+  bytes_each xs long each = bytes_are bytes xs p n long (λ i low. each i low ∙ ap (λ (zs : List ℕ). get_or zs i 0) from)
 
 -- all lie past the end
 pub bytes_past : (bytes : List ℕ) (p n : ℕ) → length bytes < p → replicate n 0 ≡ bytes_at bytes p n

@@ -23,12 +23,12 @@ module _ (bytes : List ℕ) (r load : ℕ) where
   abbrev pub Led : ℕ → Type 0
   Led g = Within (file_entry bytes) ((r + g) % file_base bytes) (load + g)
 
-  closed_all : ((j : ℕ) → j < file_units bytes - 1 → Led (file_size bytes j)) → Closed (file_base bytes) (file_others bytes) (file_entry bytes) r load
+  pub closed_all : ((j : ℕ) → j < file_units bytes - 1 → Led (file_size bytes j)) → Closed (file_base bytes) (file_others bytes) (file_entry bytes) r load
   closed_all each j h =
       let low : j < file_units bytes - 1 = omega (arith, others_length bytes) in
       subst Led (sym (others_at bytes j low)) (each j low)
 
-  closed_one : (j : ℕ) → j < file_units bytes - 1 → Closed (file_base bytes) (file_others bytes) (file_entry bytes) r load → Led (file_size bytes j)
+  pub closed_one : (j : ℕ) → j < file_units bytes - 1 → Closed (file_base bytes) (file_others bytes) (file_entry bytes) r load → Led (file_size bytes j)
   closed_one j low closed = subst Led (others_at bytes j low) (closed j (omega (arith, others_length bytes)))
 
   -- what `all` finds at the places of the other units

@@ -1,24 +1,23 @@
 -- From the checks of a file to the verdict on it.
 use Rattle.std.proofs.Common.{◌≡◌, ℕ, List, IsErrAnd, MatchResult, Result, Ok, Err, sym, ◌∙◌, inl, inr}
-use Rattle.std.proofs.lemmas.Result.{err_from_is_err_and}
 use Rattle.tables.specs.Rules.{Rules}
 use Rattle.tables.proofs.Certificate.{sound, complete}
 use Rattle.tables.specs.declared.refusals.Refusal.{Refusal}
-use Rattle.tables.specs.declared.refusals.Refusal.TheVariants.{Malformed, Untrue}
+use Rattle.tables.specs.declared.refusals.Refusal.TheVariants.{Malformed}
 use Rattle.files.specs.Checks.{FirstFalse}
 use Rattle.files.specs.Entries.{entry_past}
 use Rattle.files.specs.Faults.{Fault, FirstFault}
-use Rattle.files.specs.Judged.{Judges, Rejects, TrueFile, malformed, untrue}
+use Rattle.files.specs.Judged.{Rejects, TrueFile, malformed}
 use Rattle.files.specs.Fields.{Bytes}
 use Rattle.files.specs.Layout.{WellFormed, file_base, file_entry, file_others}
 use Rattle.files.proofs.Firsts.{no_fault, one_fault}
 use Rattle.files.proofs.Formed.{formed_low, others_sized}
 
 module _ (bytes : List ℕ) where
-  fault_untrue : (offset : ℕ) → Fault bytes offset → TrueFile bytes → ⊥
+  pub fault_untrue : (offset : ℕ) → Fault bytes offset → TrueFile bytes → ⊥
   fault_untrue offset fault true_file = no_fault bytes offset fault true_file.formed
 
-  rules_true : WellFormed bytes → Rules (file_base bytes) (file_others bytes) (file_entry bytes) → TrueFile bytes
+  pub rules_true : WellFormed bytes → Rules (file_base bytes) (file_others bytes) (file_entry bytes) → TrueFile bytes
   rules_true formed rules =
       record {
         formed = formed;
@@ -28,15 +27,12 @@ module _ (bytes : List ℕ) where
   pub true_rules : TrueFile bytes → Rules (file_base bytes) (file_others bytes) (file_entry bytes)
   true_rules true_file = complete (file_base bytes) (file_others bytes) (file_entry bytes) (formed_low bytes true_file.formed) true_file.table
 
-  false_untrue : (r : ℕ) → FirstFalse (file_base bytes) (file_others bytes) (file_entry bytes) r → TrueFile bytes → ⊥
+  pub false_untrue : (r : ℕ) → FirstFalse (file_base bytes) (file_others bytes) (file_entry bytes) r → TrueFile bytes → ⊥
   false_untrue r first true_file = first.fails (true_rules true_file r first.below)
 
-  -- what the check of the layout answers, and what that of the entries does
+  -- what the check of the layout answers
   abbrev Laid : Result (Unit {0}) ℕ → Type 0
   Laid r = MatchResult r (λ _. WellFormed bytes × Bytes bytes) (Fault bytes)
-
-  abbrev Ruled : Result (Unit {0}) ℕ → Type 0
-  Ruled r = MatchResult r (λ _. Rules (file_base bytes) (file_others bytes) (file_entry bytes)) (FirstFalse (file_base bytes) (file_others bytes) (file_entry bytes))
 
   -- where such an answer is told as a refusal
   abbrev Told : (ℕ → Refusal) → Result (Unit {0}) ℕ → Result (Unit {0}) Refusal → Type 0
@@ -53,9 +49,3 @@ module _ (bytes : List ℕ) where
   pub first_fault : (r : Result (Unit {0}) ℕ) → Laid r → FirstFault bytes
   first_fault (Ok _) laid = record { either = inl laid.0; one = one_fault bytes; none = no_fault bytes }
   first_fault (Err offset) fault = record { either = inr (offset, fault); one = one_fault bytes; none = no_fault bytes }
-
-  pub judged : (r : Result (Unit {0}) ℕ) (told : Result (Unit {0}) Refusal) → WellFormed bytes → Ruled r → Told Untrue r told → Judges bytes told
-  judged (Ok _) told formed rules ok = rw ok (rules_true formed rules)
-  judged (Err first) told formed false same =
-      let p = err_from_is_err_and told same in
-      rw (p.1, p.2) (untrue first formed false, false_untrue first false)

@@ -1,11 +1,8 @@
--- Why every view over a file is a lawful source, and shows the true table of the row that its file lists.
--- The laws of a source cite these proofs, so they stand among the definitions.
-use Rattle.std.proofs.Common.{ℕ, suc, List, arith}
-use Rattle.tables.specs.Rows.{Row, Table}
+-- Why every view over a file is a lawful source: a proof, which stands here since a law may not cite its own crate's `proofs/`.
+use Rattle.std.proofs.Common.{arith}
 use Rattle.tables.specs.Tables.{Lawful}
-use Rattle.tables.proofs.Tested.{table_from}
 use Rattle.files.specs.Entries.{entry_past, entry_fits, zero_is}
-use Rattle.files.specs.Layout.{file_base, file_entry, file_others, file_row}
+use Rattle.files.specs.Layout.{file_base, file_entry}
 use Rattle.files.specs.declared.view.View.{View}
 
 pub view_lawful : (v : View) → Lawful (file_base v.file.now) (file_entry v.file.now)
@@ -18,21 +15,3 @@ view_lawful v =
       leaves = v.leaves;
       fits = entry_fits v.file.now;
     }
-
-module _ (v : View) where
-  pub view_row : Row (file_row v.file.now)
-  view_row =
-      record {
-        some = omega arith;
-        few = v.few;
-        base = v.high;
-        sizes = v.sized;
-        rises = λ i j one less inside. v.rises i j (one, less, inside);
-        apart = v.apart;
-      }
-
-  pub view_table : Table (file_row v.file.now) (file_entry v.file.now)
-  view_table =
-      let b : List ℕ = v.file.now in
-      table_from (file_base b) (file_others b) (file_entry b) (v.sized 0 (omega arith)).0 (zero_is (file_entry b 0) v.start) v.leaves v.closed v.stepped
-      (λ j h. (v.sized (suc j) (omega arith)).0) (entry_past b)

@@ -13,8 +13,11 @@ pub(crate) fn read<const N: usize>(file: &[u8], at: usize) -> [u8; N]
     if let Some(bytes) = rest.first_chunk() {
         return *bytes;
     }
+    // Byte by byte: to copy a number of bytes that is not constant, the library for C would need one more name from outside.
     let mut bytes = [0; N];
-    bytes[..rest.len()].copy_from_slice(rest);
+    for i in 0..N {
+        bytes[i] = rest.get(i).copied().unwrap_or(0);
+    }
     bytes
 }
 

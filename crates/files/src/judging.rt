@@ -18,5 +18,8 @@ pub fn judge(file: &[u8]) -> Result<(), Refusal>
     ensures fault { FirstFault file.now }
 {
     check_layout(file).map_err(Refusal::Malformed)?;
-    check_entries(file).map_err(Refusal::Untrue)
+    if let Err(remainder) = check_entries(file) {
+        return Err(Refusal::Untrue(remainder));
+    }
+    Ok(())
 }

@@ -154,7 +154,7 @@ module _ {most : ℕ} {bytes t : List ℕ} (e : bytes ≡ 32 ∷ t) where
         after = λ d. n.after (subst Digit at d);
       }
 
-spaced_is : {most : ℕ} {bytes : List ℕ} {v end : ℕ} → SpacedNumber most bytes v end → 32 ∷ (decimal v ++ drop end bytes) ≡ bytes
+pub spaced_is : {most : ℕ} {bytes : List ℕ} {v end : ℕ} → SpacedNumber most bytes v end → 32 ∷ (decimal v ++ drop end bytes) ≡ bytes
 spaced_is {bytes = bytes} {end = end} n = ap (λ (u : List ℕ). u ++ drop end bytes) (sym n.is) ∙ take-append-drop end bytes
 
 -- one space, a number, and then a text of Rest

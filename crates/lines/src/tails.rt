@@ -13,8 +13,8 @@ use tables::Refusal;
 pub(crate) struct Tail<'a> {
     bytes: &'a [u8],
     column: usize,
-    /// Each byte that is left, and the end behind them, has a column.
-    ghost within: { column + length bytes.now < 2 ^ 64 },
+    /// Each byte that is left, and the end behind them, has a column, with one to spare.
+    ghost within: { column + length bytes.now + 1 < 2 ^ 64 },
 }
 
 impl<'a> Tail<'a> {

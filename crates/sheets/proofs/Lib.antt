@@ -1,4 +1,3 @@
 pub mod Ends
 pub mod Printing
-pub mod Loads
 pub mod Lines

@@ -8,7 +8,7 @@ use crate::answers::Answer;
 use books::Book;
 use lines::{Line, read};
 use std::alloc::{AllocError, Global};
-use tables::{LARGEST_BASE, Refusal, Showing, make};
+use tables::{LARGEST_BASE, MOST_UNITS, Refusal, make};
 
 /// What a sheet keeps from line to line: the book that an accepted line opened last, and a strip for withdrawals to work in,
 /// with a byte for each remainder by the largest base.
@@ -24,9 +24,10 @@ pub(crate) struct Sheet {
 fn make_load(heap: Global, book: &Book, load: u32) -> Result<Vec<u32>, Refusal>
     ensures { MakesOrMemory (row_of book.now) load result }
 {
-    let mut numbers = vec![in heap; 0; book.units()]?;
-    make(book, u64::from(load), numbers.as_mut_slice())?;
-    Ok(numbers)
+    // An array and no `Vec`: a load that is refused takes no memory.
+    let mut numbers = [0; MOST_UNITS];
+    let units = make(book, u64::from(load), &mut numbers)?;
+    Ok(Vec::from_slice(heap, &numbers[..units])?)
 }
 
 impl Sheet {

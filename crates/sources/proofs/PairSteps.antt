@@ -5,8 +5,8 @@ use Rattle.tables.proofs.Present.{not_both}
 use Rattle.tables.proofs.Firsts.{EntryStep, step_some, step_none}
 use Rattle.sources.specs.NewPairs.{pair_entry, pair_row}
 use Rattle.sources.specs.declared.pair.stored.Pair.{Pair}
-use Rattle.sources.specs.PairIs.{pair_is}
-use Rattle.sources.specs.PairShowing.{pair_table, pair_ordered}
+use Rattle.sources.proofs.PairIs.{pair_is}
+use Rattle.sources.proofs.PairShowing.{pair_table, pair_ordered}
 
 module _ (pair : Pair) where
   -- what is told of a step

@@ -4,6 +4,3 @@ pub mod PairLaws
 pub mod NewPairs
 pub mod Meets
 pub mod MeetLaws
-pub mod PairRows
-pub mod PairIs
-pub mod PairShowing

@@ -1,6 +1,7 @@
 //! Gives a book a past, surveys it beside a pair of units, and prints what the survey finds.
 #![tactic(auto)]
 
+use anyhow::anyhow;
 use books::{Book, Findings, survey};
 use sources::Pair;
 use std::io;
@@ -42,9 +43,14 @@ fn print_findings(rt: &HostRuntime, found: &Findings) -> io::Result<()> {
     println!(rt; "the file of another row's table: {restored:?}")
 }
 
+/// What the program reports of a call that is refused, whatever the reason.
+fn refused(_reason: Refusal) -> anyhow::Error {
+    anyhow!("a call was refused")
+}
+
 fn run(rt: &HostRuntime) -> anyhow::Result<()> {
-    let mut book = book_with_past(rt)?;
-    let pair = Pair::new(5, 7)?;
+    let mut book = book_with_past(rt).map_err(refused)?;
+    let pair = Pair::new(5, 7).map_err(refused)?;
     let mut numbers = [0; 2];
     let mut places = [0; 2];
     let found = survey(

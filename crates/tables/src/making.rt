@@ -2,7 +2,7 @@
 
 ghost use Rattle.std.specs.Prelude.{◌≡◌, ◌%◌, length, Some, slice_index};
 ghost use Rattle.tables.specs.Made.{Followed, Make};
-ghost use Rattle.tables.specs.Rows.{total};
+ghost use Rattle.tables.specs.Rows.{total, Row, Table, base_of};
 
 use crate::refusals::Refusal;
 use crate::showing::Showing;
@@ -12,6 +12,9 @@ const GREATEST: u64 = 1_000_000_000;
 
 /// Counts the units by which the steps lead from an entry down to 0.
 fn follow<S: Showing>(source: &S, entry: u32, counts: &mut [u32])
+    requires ordered { Row (S.Showing.row source.now) }
+    requires based { base_of (S.Showing.row source.now) ≡ S.Entries.modulus source.now }
+    requires table { Table (S.Showing.row source.now) (S.Entries.entry source.now) }
     requires present { S.Entries.entry source.now (entry % S.Entries.modulus source.now) ≡ Some entry }
     requires places { length counts.old ≡ length (S.Showing.row source.now) }
     ensures followed { Followed (S.Showing.row source.now) (entry % S.Entries.modulus source.now) counts.new }

@@ -9,15 +9,19 @@ use crate::sources::Source;
 
 /// A source whose entries are the least loads that a row of units makes.
 ///
-/// `row` is its row: the base first, then at most fifteen other units in ascending order, none twice. The laws tie the
-/// entries to it: each entry is the least load of its remainder that the row makes, absent where it makes none. Whoever adds
-/// a showing source gives the row and shows the laws. The questions alter nothing and are never refused.
+/// `row` is its row: the base first, then at most fifteen other units in ascending order, none twice. The promises of the
+/// questions tie the entries to it: each entry is the least load of its remainder that the row makes, absent where it makes
+/// none. Whoever adds a showing source gives the row and shows these promises. The questions alter nothing and are never
+/// refused.
 pub trait Showing: Source {
     ghost row: { Self → List ℕ };
 
     /// The number of units, the base among them.
     fn units(&self) -> usize
-        ensures { result ≡ length (row self.now) };
+        ensures value { result ≡ length (row self.now) }
+        ensures ordered { Row (row self.now) }
+        ensures based { base_of (row self.now) ≡ Self.Entries.modulus self.now }
+        ensures table { Table (row self.now) (Self.Entries.entry self.now) };
 
     /// The size of the unit at a position, the base at 0; none past the last.
     fn size(&self, position: usize) -> Option<u16>
@@ -27,23 +31,11 @@ pub trait Showing: Source {
     /// None at 0 and where the entry is absent.
     fn step(&self, remainder: u32) -> Option<usize>
         ensures { result ≡ step_at (row self.now) (Self.Entries.entry self.now) remainder };
-
-    ghost ordered: { (s : Self) → Row (row s) };
-
-    ghost based: { (s : Self) → base_of (row s) ≡ Self.Entries.modulus s };
-
-    ghost table: { (s : Self) → Table (row s) (Self.Entries.entry s) };
 }
 
 /// A showing source that is lent is a showing source.
 impl<S: Showing> Showing for &S {
     ghost row = { λ s. S.Showing.row s.now };
-
-    ghost ordered = { λ s. S.Showing.ordered s.now };
-
-    ghost based = { λ s. S.Showing.based s.now };
-
-    ghost table = { λ s. S.Showing.table s.now };
 
     fn units(&self) -> usize {
         (**self).units()

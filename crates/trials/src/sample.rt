@@ -1,9 +1,9 @@
 //! A showing source that is neither a book nor a pair: the units 5, 8 and 12 with their table written out.
 
-ghost use Rattle.std.specs.Prelude.{refl};
+ghost use Rattle.std.specs.Prelude.{[], ◌∷◌, refl};
 ghost use Rattle.tables.specs.Tables.{entry_of};
 ghost use Rattle.tables.specs.Written.{written_lawful};
-ghost use Rattle.trials.specs.Sampled.{sampled, sampled_ordered, sampled_row, sampled_table};
+ghost use Rattle.trials.specs.Sampled.{sampled};
 
 use tables::{Entries, Showing, Source};
 
@@ -38,13 +38,7 @@ impl Source for Sample {
 }
 
 impl Showing for Sample {
-    ghost row = { λ _. sampled_row };
-
-    ghost ordered = { λ _. sampled_ordered };
-
-    ghost based = { λ _. refl };
-
-    ghost table = { λ _. sampled_table };
+    ghost row = { λ _. 5 ∷ 8 ∷ 12 ∷ [] };
 
     fn units(&self) -> usize {
         3

@@ -1,21 +1,23 @@
 //! The waiting list, and what can wait in it.
 
-ghost use Rattle.std.specs.Prelude.{◌≡◌, ◌-◌, ◌<◌, ◌≤◌, Bool, false, [], length, take, All, IfNone, IfSome, Some, slice_get, ◌==◌};
+ghost use Rattle.std.specs.Prelude.{◌≡◌, ◌-◌, ◌<◌, ◌≤◌, Bool, false, [], length, take, IfNone, IfSome, Some, slice_get, ◌==◌};
 ghost use Rattle.std.specs.Cmp.{IsStrictWeakOrder};
-ghost use Rattle.std.specs.Ordering.{is_lt};
+ghost use Rattle.std.specs.List.{IsFirstBest};
 ghost use Rattle.waiting.specs.Lists.{Put, Taken, room, waits};
 
 use tables::Refusal;
 
 /// What can wait: values of a kind that has a total order, in which different ones never tie.
 ///
-/// The order is told by the ghost member `before`. Whoever adds a kind shows that `before` is what its `Ord` answers by
-/// (`ordered`), that it is an order (`ranks`), and that two values of which neither is before the other are the same value
-/// (`apart`).
-pub trait Queued: Copy + Ord {
+/// The order is told by the ghost member `before`. Whoever adds a kind shows that `before` is an order (`ranks`), that
+/// two values of which neither is before the other are the same value (`apart`), and that `precedes` answers it.
+// No `Ord` is asked: a kind may have none, or one that is not the order in which it waits.
+pub trait Queued: Copy {
     ghost before: { Self → Self → Bool };
 
-    ghost ordered: { (x y : Self) → before x y ≡ is_lt (Self.cmp x y) };
+    /// Whether this one is before the other.
+    fn precedes(&self, other: &Self) -> bool
+        ensures { result ≡ before self.now other.now };
 
     ghost ranks: { IsStrictWeakOrder before };
 
@@ -33,14 +35,19 @@ pub struct Waiting<'a, T> {
     len: usize,
 }
 
-/// The least and its place, if there is one.
+/// The least and its place, the first where several hold it, if there is one.
 fn least<T: Queued>(slots: &[T]) -> Option<(usize, T)>
     ensures none { IfNone result (slots.now ≡ []) }
-    ensures inside { IfSome result (λ p. p.0 < length slots.now) }
+    ensures first { IfSome result (λ p. IsFirstBest T.before slots.now (length slots.now) p.0) }
     ensures there { IfSome result (λ p. slice_get slots.now p.0 ≡ Some p.1) }
-    ensures least { IfSome result (λ p. All (λ x. is_lt (T.cmp x p.1) ≡ false) slots.now) }
 {
-    slots.iter().copied().enumerate().min_by_key(|&(_, x)| x)
+    let mut best = 0;
+    for i in 1..slots.len() {
+        if slots[i].precedes(&slots[best]) {
+            best = i;
+        }
+    }
+    slots.get(best).map(|&x| (best, x))
 }
 
 /// Takes the least of the first `n` out, if there is one. The last of them goes to its place, so that the others are the

@@ -1,6 +1,6 @@
 //! Trailers, which wait by minute, then by line, then by load.
 
-ghost use Rattle.waiting.specs.Trailers.{earlier, earlier_apart, earlier_ordered, earlier_ranks};
+ghost use Rattle.waiting.specs.Trailers.{earlier, earlier_apart, earlier_ranks};
 
 use crate::list::Queued;
 
@@ -16,9 +16,11 @@ pub struct Trailer {
 impl Queued for Trailer {
     ghost before = { earlier };
 
-    ghost ordered = { earlier_ordered };
-
     ghost ranks = { earlier_ranks };
 
     ghost apart = { earlier_apart };
+
+    fn precedes(&self, other: &Trailer) -> bool {
+        self < other
+    }
 }

@@ -1,20 +1,12 @@
 //! A book as a showing source: its row is stored, and its steps are looked up among the entries.
 
-ghost use Rattle.std.specs.Prelude.{refl};
 ghost use Rattle.books.specs.Books.{row_of};
-ghost use Rattle.books.specs.Held.{book_row, book_table};
 
 use super::Book;
 use tables::{Showing, steps_up};
 
 impl Showing for Book {
     ghost row = { λ b. row_of b };
-
-    ghost ordered = { λ b. book_row b };
-
-    ghost based = { λ b. refl };
-
-    ghost table = { λ b. book_table b };
 
     fn units(&self) -> usize {
         self.others.len() + 1

@@ -1,6 +1,6 @@
 //! The candidates of a merge: a load, and the position of the unit that leads to it.
 
-ghost use Rattle.books.specs.Candidates.{sooner, sooner_apart, sooner_ordered, sooner_ranks};
+ghost use Rattle.books.specs.Candidates.{sooner, sooner_apart, sooner_ranks};
 
 use waiting::Queued;
 
@@ -14,9 +14,11 @@ pub(crate) struct Candidate {
 impl Queued for Candidate {
     ghost before = { sooner };
 
-    ghost ordered = { sooner_ordered };
-
     ghost ranks = { sooner_ranks };
 
     ghost apart = { sooner_apart };
+
+    fn precedes(&self, other: &Candidate) -> bool {
+        self < other
+    }
 }

@@ -1,9 +1,8 @@
 //! A view over a true file as a showing source: it reads its answers from the file's bytes.
 
-ghost use Rattle.std.specs.Prelude.{refl};
 ghost use Rattle.files.specs.Entries.{entry_past};
 ghost use Rattle.files.specs.Layout.{file_base, file_entry, file_row};
-ghost use Rattle.files.specs.Viewed.{view_lawful, view_row, view_table};
+ghost use Rattle.files.specs.Viewed.{view_lawful};
 
 use super::View;
 use crate::{reading, stepping};
@@ -32,12 +31,6 @@ impl Source for View<'_> {
 
 impl Showing for View<'_> {
     ghost row = { λ v. file_row v.file.now };
-
-    ghost ordered = { λ v. view_row v };
-
-    ghost based = { λ v. refl };
-
-    ghost table = { λ v. view_table v };
 
     fn units(&self) -> usize {
         reading::units(self.file)

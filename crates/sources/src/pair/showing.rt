@@ -1,20 +1,12 @@
 //! A pair as a showing source: its row is the two units, and every entry but that of 0 is reached by the other unit.
 
-ghost use Rattle.std.specs.Prelude.{refl};
 ghost use Rattle.sources.specs.NewPairs.{pair_row};
-ghost use Rattle.sources.specs.PairShowing.{pair_ordered, pair_table};
 
 use super::Pair;
 use tables::Showing;
 
 impl Showing for Pair {
     ghost row = { pair_row };
-
-    ghost ordered = { pair_ordered };
-
-    ghost based = { λ s. refl };
-
-    ghost table = { pair_table };
 
     fn units(&self) -> usize {
         2

@@ -8,7 +8,7 @@ use Rattle.tables.specs.Rules.{Rules}
 use Rattle.tables.specs.Tables.{entry_of}
 use Rattle.tables.proofs.Tested.{start_from, closed_from, stepped_from}
 use Rattle.books.specs.Lawful.{book_leaves, book_rules}
-use Rattle.books.specs.Held.{book_room, book_table}
+use Rattle.books.proofs.Held.{book_room, book_table}
 use Rattle.books.proofs.Extends.{Joined, extended_rules, inserted_joined}
 use Rattle.books.specs.Units.{Located, Sized, Small, Rising, Apart}
 use Rattle.books.proofs.Inserted.{in_each, in_rising}

@@ -2,7 +2,7 @@ use Rattle.std.proofs.lemmas.Result.{MatchResult-weaker}
 use Rattle.tables.proofs.Unmade.{row_greatest, row_unending}
 use Rattle.books.specs.Books.{row_of, table_of}
 use Rattle.books.specs.Lawful.{book_lawful}
-use Rattle.books.specs.Held.{book_row, book_table}
+use Rattle.books.proofs.Held.{book_row, book_table}
 use Rattle.books.proofs.book.Book.largest.Goals as goal
 
 pub returns : goal.returns

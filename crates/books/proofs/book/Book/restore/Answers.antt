@@ -7,7 +7,7 @@ use Rattle.tables.specs.Tables.{entry_of}
 use Rattle.tables.specs.Tests.{AllClosed, AllStepped}
 use Rattle.books.specs.Units.{Apart, Rising, Sized, Small}
 use Rattle.books.proofs.Filed.{listed_closed, listed_start, listed_stepped, listed_table, written_same}
-use Rattle.books.specs.Held.{book_table}
+use Rattle.books.proofs.Held.{book_table}
 use Rattle.books.proofs.book.Book.restore.Goals as goal
 
 pub returns-in_err-judge : goal.returns-in_err-judge

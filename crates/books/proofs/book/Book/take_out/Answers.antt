@@ -3,7 +3,7 @@ use Rattle.tables.specs.Rows.{Table}
 use Rattle.tables.specs.Tables.{entry_of}
 use Rattle.books.specs.Units.{Sized, Small, Rising, Apart}
 use Rattle.books.proofs.Clears.{cleared_all, left_cleared}
-use Rattle.books.specs.Held.{book_table}
+use Rattle.books.proofs.Held.{book_table}
 use Rattle.books.proofs.Lists.{has_place, has_no_place, located}
 use Rattle.books.proofs.Refused.{withdraw_base, withdraw_absent, withdraw_fits}
 use Rattle.books.proofs.Removed.{out_each, out_rising, leave_out_is}

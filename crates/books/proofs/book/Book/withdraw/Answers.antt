@@ -1,7 +1,7 @@
 use Rattle.std.proofs.Common.{ℕ, length, Some, vec_items, sym, ap, ◌∙◌, arith}
 use Rattle.tables.specs.declared.refusals.Refusal.TheVariants.{NoRoom}
 use Rattle.books.proofs.Clears.{left_short}
-use Rattle.books.specs.Held.{book_table}
+use Rattle.books.proofs.Held.{book_table}
 use Rattle.books.proofs.Refused.{withdraw_short}
 use Rattle.books.proofs.Turned.{turns_refused}
 use Rattle.books.proofs.book.Book.withdraw.Goals as goal

@@ -1,6 +1,6 @@
 use Rattle.std.proofs.Common.{refl, inr}
 use Rattle.sources.proofs.Euclid.{solved_greatest}
-use Rattle.sources.specs.PairIs.{pair_is}
+use Rattle.sources.proofs.PairIs.{pair_is}
 use Rattle.sources.proofs.pair.stored.Pair.new.Goals as goal
 
 pub returns-then-found-gt1 : goal.returns-then-found-gt1

@@ -1,9 +1,8 @@
 -- Why a pair shows its row: the two units are in order, and their entries are the table of it.
--- The laws of a showing source cite these proofs, so they stand among the definitions.
 use Rattle.std.proofs.Common.{◌≡◌, ℕ, zero, suc, ◌<◌, ◌≤◌, length, get_or, arith}
 use Rattle.tables.specs.Rows.{Row, Table}
 use Rattle.sources.specs.NewPairs.{pair_entry, pair_row}
-use Rattle.sources.specs.PairIs.{pair_is}
+use Rattle.sources.proofs.PairIs.{pair_is}
 use Rattle.sources.specs.declared.pair.stored.Pair.{Pair}
 
 module _ (pair : Pair) where

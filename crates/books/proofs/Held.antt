@@ -1,5 +1,4 @@
 -- What every book holds: the true table of its row, and room for each unit that may be admitted.
--- The laws of a showing source cite these proofs, so they stand among the definitions.
 use Rattle.std.proofs.Common.{◌≡◌, ℕ, zero, suc, ◌-◌, ◌<◌, ◌≤◌, length, get_or, vec_items, arith}
 use Rattle.std.proofs.lemmas.Nat.{mul-le}
 use Rattle.tables.specs.Rows.{Row, Table}

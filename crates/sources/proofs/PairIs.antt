@@ -7,7 +7,7 @@ use Rattle.sources.specs.NewPairs.{Enters, Paired, pair_entry}
 use Rattle.sources.specs.PairLaws.{entry_first, entry_below, entry_past}
 use Rattle.sources.specs.Pairs.{Inverts}
 use Rattle.sources.specs.declared.pair.stored.Pair.{Pair}
-use Rattle.sources.specs.PairRows.{entries_table}
+use Rattle.sources.proofs.PairRows.{entries_table}
 
 -- whatever divides both units divides the 1 that they leave
 inverts_coprime : (base other inverse : ℕ) → Inverts base other inverse → (d : ℕ) → Common base other d → d ≡ 1
